@@ -1,0 +1,3 @@
+// Delay memories: what a memory means, and two makes that mean it.
+pub mod memory;
+pub mod ring;
