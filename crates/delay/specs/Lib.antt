@@ -1,1 +1,4 @@
 pub mod Delay
+pub mod Rotated
+pub mod Woven
+pub mod Makes

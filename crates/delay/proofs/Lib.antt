@@ -1,0 +1,4 @@
+pub mod Filling
+pub mod Laws
+pub mod Turning
+pub mod Weaving
