@@ -1,0 +1,3 @@
+pub mod Magnitudes
+pub mod Rows
+pub mod Uses
