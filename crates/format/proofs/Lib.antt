@@ -1,0 +1,13 @@
+pub mod RasterLaws
+pub mod Fields
+pub mod InOrder
+pub mod Verdicts
+pub mod Twos
+pub mod SoundLaws
+pub mod Windows
+pub mod Packed
+pub mod HeaderLaws
+pub mod Laid
+pub mod WriteLaws
+pub mod RecordLaws
+pub mod SurvivalLaws

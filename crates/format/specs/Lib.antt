@@ -1,0 +1,14 @@
+pub mod Refusal
+pub mod Raster
+pub mod Bits
+pub mod Header
+pub mod Modes
+pub mod Reader
+pub mod Record
+pub mod RecordOver
+pub mod Usable
+pub mod Sound
+pub mod Packing
+pub mod HeaderWriting
+pub mod RecordWriting
+pub mod Survival
