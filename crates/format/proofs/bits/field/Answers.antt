@@ -16,11 +16,11 @@ same c =
     let q = c.args.start / 8 in
     let o = c.args.start % 8 in
     let n = c.args.count in
-    let high = c.from-high.ensures ∙ c.byte-at.ensures in
-    let low = c.from-low.ensures ∙ c.byte-at-2.ensures in
+    let high = c.from-high.ensures ∙ c.byte_at.ensures in
+    let low = c.from-low.ensures ∙ c.byte_at-2.ensures in
     let cut = one_shl n 32 (omega arith) in
     let start : 8 * q + o ≡ c.args.start = omega arith in
-    let w = window bytes q o n (c.type-inv.bytes (q + 1)).fits (omega arith) in
+    let w = window bytes q o n (c.ok.bytes (q + 1)).fits (omega arith) in
     rw (high, low, cut) (sym w ∙ ap (λ (k : ℕ). field_of bytes k n) start)
 
 pub overflow-cast-result-3 : goal.overflow-cast-result-3

@@ -11,4 +11,4 @@ returns-then-is-empty c =
 
 pub returns : goal.returns
 unfolding head_in
-returns c = c.head-of-2.ensures
+returns c = c.head_of-2.ensures

@@ -43,17 +43,17 @@ returns c =
     let front = c.args.front in
     let raster = front.raster in
     let buffer = c.args.buffer.now in
-    let h = c.head-byte.result in
+    let h = c.head_byte.result in
     let n = word_bytes raster in
     let read = map still (words_read raster (front_bytes front)) in
     let count : c.blocks-count.result ≡ blocks raster = c.blocks-count.ensures.value ∙ ap blocks c.raster-raster.ensures in
-    let words = part raster c.blocks-count.result c.still-words-words.result read count c.still-words-words.ensures in
+    let words = part raster c.blocks-count.result c.still_words-words.result read count c.still_words-words.ensures in
     let long = behind buffer h n c.requires in
     let same = length-set buffer 0 h in
-    let written : c.write-words.new.bytes ≡ map (words_byte read) (range_with_len 0 n) =
-    c.write-words.ensures ∙ ap (λ (ws : List BlockWord). map (words_byte ws) (range_with_len 0 (length (take (length (set buffer 0 h) - 1) (drop 1 (set buffer 0 h)))))) words
+    let written : c.write_words.new.bytes ≡ map (words_byte read) (range_with_len 0 n) =
+    c.write_words.ensures ∙ ap (λ (ws : List BlockWord). map (words_byte ws) (range_with_len 0 (length (take (length (set buffer 0 h) - 1) (drop 1 (set buffer 0 h)))))) words
     ∙ ap (λ (k : ℕ). map (words_byte read) (range_with_len 0 k)) long in
-    let last = c.write-words.new.bytes in
+    let last = c.write_words.new.bytes in
     let wide : length last ≡ n = ap length written ∙ length-map-range_with_len (words_byte read) 0 n in
     let laid = front_laid last h n wide buffer (omega (arith, c.requires)) in
     let none = nil_from_length laid.0 (omega (arith, laid.1.1, c.requires)) in
@@ -62,4 +62,4 @@ returns c =
     ∙ laid.1.0
     ∙ ap (λ (xs : List ℕ). h ∷ (last ++ xs)) none
     ∙ ap (λ (xs : List ℕ). h ∷ xs) (append-nil last ∙ written)
-    ∙ ap (λ (b : ℕ). b ∷ map (words_byte read) (range_with_len 0 n)) c.head-byte.ensures
+    ∙ ap (λ (b : ℕ). b ∷ map (words_byte read) (range_with_len 0 n)) c.head_byte.ensures

@@ -9,8 +9,8 @@ pub loop-i-preserved : goal.loop-i-preserved
 loop-i-preserved c =
     let a = c.args in
     let within : c.loop-i.i < length c.loop-i.words = omega (arith, c.loop-i.invariant.0) in (
-      length-set c.loop-i.words c.loop-i.i (still c.word-of.result) ∙ c.loop-i.invariant.0,
-      still_more a.front.raster (front_bytes a.front) c.loop-i.words c.loop-i.i (still c.word-of.result) within (ap still c.word-of.ensures)
+      length-set c.loop-i.words c.loop-i.i (still c.word_of.result) ∙ c.loop-i.invariant.0,
+      still_more a.front.raster (front_bytes a.front) c.loop-i.words c.loop-i.i (still c.word_of.result) within (ap still c.word_of.ensures)
           c.loop-i.invariant.1,
     )
 

@@ -24,7 +24,7 @@ loop-i-preserved c =
     let words = c.args.words.now in
     let test = range_test words in
     let i = c.loop-i.i in
-    let here = range_verdict words i true c.if-not-in-range.ensures in
+    let here = range_verdict words i true c.if-not-in_range.ensures in
     let next : 2 + (i + 1) ≡ 2 + i + 1 = omega arith in
     ap (λ (k : ℕ). in_order test k (2 + length words - k)) next
     ∙ sym (in_order_past test (2 + i) (2 + length words) (omega arith) here) ∙ c.loop-i.invariant

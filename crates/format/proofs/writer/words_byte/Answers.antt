@@ -33,7 +33,7 @@ loop-k-preserved c =
     let count : k + 1 - start ≡ k - start + 1 = omega arith in
     let all = ap (packed bit start) count in
     let place : k ≡ start + (k - start) = omega arith in
-    let d = bool_digit c.words-bit.result ∙ ap digit (c.words-bit.ensures ∙ ap bit place) in
+    let d = bool_digit c.words_bit.result ∙ ap digit (c.words_bit.ensures ∙ ap bit place) in
     omega (arith, c.loop-k.invariant, c.from.ensures)
 
 pub returns : goal.returns

@@ -8,14 +8,14 @@ pub loop-i-preserved : goal.loop-i-preserved
 loop-i-preserved c =
     let bytes = c.loop-i.bytes in
     let i = c.loop-i.i in
-    let byte = c.twos-field.result in
+    let byte = c.twos_field.result in
     let level = get_or c.args.levels.now i (pos 0) in
     let fits : SFits w8 level = search rules in
     let read = ap (twos_field 128) (to_z-of_z w8 level fits) in
     let place = get_or-map (twos_field 128) c.args.levels.now i (pos 0) 0 c.loop-i-test.true in
     below_more _ _
     (λ k h. let other : k ≢ i = omega arith in get_or-set_other bytes i k byte 0 other ∙ c.loop-i.invariant k h)
-    (get_or-set_same bytes i byte 0 (omega arith) ∙ c.twos-field.ensures ∙ read ∙ sym place)
+    (get_or-set_same bytes i byte 0 (omega arith) ∙ c.twos_field.ensures ∙ read ∙ sym place)
 
 pub returns : goal.returns
 returns c =

@@ -15,8 +15,8 @@ pub returns : goal.returns
 returns c =
     let words = c.args.words.now in
     let levels = c.args.levels.now in
-    let blocks-passed = count_passed c.blocks-2.result (length words) (sym c.in-ok-count-fits.ensures) in
-    let levels-passed = count_passed (8 * c.line-levels.result) (length levels) (sym c.in-ok-count-fits-2.ensures) in
+    let blocks-passed = count_passed c.blocks-2.result (length words) (sym c.in_ok-count_fits.ensures) in
+    let levels-passed = count_passed (8 * c.line_levels.result) (length levels) (sym c.in_ok-count_fits-2.ensures) in
     let ranged = ranged_passed words (sym c.in-ok-vectors-fit.ensures) in
     let P : List ℕ → Type 0 = Holds c.args.raster c.args.head words levels in
     record {

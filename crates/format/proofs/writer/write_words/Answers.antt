@@ -8,10 +8,10 @@ pub loop-i-preserved : goal.loop-i-preserved
 loop-i-preserved c =
     let bytes = c.loop-i.bytes in
     let i = c.loop-i.i in
-    let byte = c.words-byte.result in
+    let byte = c.words_byte.result in
     below_more _ _
     (λ k h. let other : k ≢ i = omega arith in get_or-set_other bytes i k byte 0 other ∙ c.loop-i.invariant k h)
-    (get_or-set_same bytes i byte 0 (omega arith) ∙ c.words-byte.ensures)
+    (get_or-set_same bytes i byte 0 (omega arith) ∙ c.words_byte.ensures)
 
 pub returns : goal.returns
 returns c =

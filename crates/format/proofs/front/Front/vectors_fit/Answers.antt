@@ -21,7 +21,7 @@ loop-block-preserved c =
     let raster = c.args.self.now.raster in
     let bytes = front_bytes c.args.self.now in
     let block = c.loop-block.block in
-    let here = vector_verdict raster bytes block c.word-of.result false c.word-of.ensures c.if-bad-vector.ensures in
+    let here = vector_verdict raster bytes block c.word_of.result false c.word_of.ensures c.if-bad_vector.ensures in
     sym (in_order_past (vector_test raster bytes) block (2 + blocks raster) (omega arith) here) ∙ c.loop-block.invariant
 
 pub returns : goal.returns

@@ -23,8 +23,8 @@ loop-block-preserved c =
     let bytes = front_bytes c.args.self.now in
     let block = c.loop-block.block in
     let test = word_test raster c.args.sbc bytes in
-    let here = word_verdict raster c.args.sbc bytes block c.head-head.result c.word-of.result false
-    c.head-head.ensures c.word-of.ensures c.if-stray-word.ensures in
+    let here = word_verdict raster c.args.sbc bytes block c.head-head.result c.word_of.result false
+    c.head-head.ensures c.word_of.ensures c.if-stray_word.ensures in
     sym (in_order_past test block (2 + blocks raster) (omega arith) here) ∙ c.loop-block.invariant
 
 pub returns : goal.returns

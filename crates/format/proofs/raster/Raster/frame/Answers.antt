@@ -9,4 +9,4 @@ returns c =
     let same : c.lines.result * c.width.result ≡ frame raster = cc (frame_is raster) in
     let least = frame_least raster in
     let most = frame_most raster in
-    record { value = same; low-bound = omega arith; bound = omega arith }
+    record { value = same; low_bound = omega arith; bound = omega arith }

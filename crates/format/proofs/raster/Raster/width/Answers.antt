@@ -5,4 +5,4 @@ use Rattle.format.proofs.raster.Raster.width.Goals as goal
 pub returns : goal.returns
 returns c =
     let w = width_is c.args.self.now in
-    record { value = omega arith; low-bound = omega arith; bound = omega arith }
+    record { value = omega arith; low_bound = omega arith; bound = omega arith }

@@ -17,16 +17,16 @@ loop-i-preserved c =
     let bytes = bytes_of c.args.self.now in
     let line = c.args.line in
     let i = c.loop-i.i in
-    let flag = c.thinned-at-thinned.result in
+    let flag = c.thinned_at-thinned.result in
     let pel : i + 4 ≡ i + 1 + 4 - 1 = omega arith in
     let gone : c.omits.result ≡ omitted raster c.args.sbc bytes line (i + 4) =
     c.omits.ensures
     ∙ ap (λ (h : Head). omits_pel h flag line (i + 4)) c.head-head.ensures
-    ∙ ap (λ (t : Bool). omits_pel (head_in bytes) t line (i + 4)) c.thinned-at-thinned.ensures in
-    let size = c.largest-level.ensures ∙ ap (λ (t : Bool). cond t 0 c.args.top) gone in
+    ∙ ap (λ (t : Bool). omits_pel (head_in bytes) t line (i + 4)) c.thinned_at-thinned.ensures in
+    let size = c.largest_level.ensures ∙ ap (λ (t : Bool). cond t 0 c.args.top) gone in
     let inside : i < length c.loop-i.largest = omega (arith, c.loop-i.invariant.0, width_is raster) in (
       simp length-set c.loop-i.invariant.0,
-      c.thinned-at-thinned.ensures ∙ ap (λ (k : ℕ). thinned raster c.args.sbc bytes (block_of k)) pel,
+      c.thinned_at-thinned.ensures ∙ ap (λ (k : ℕ). thinned raster c.args.sbc bytes (block_of k)) pel,
       below_more _ _
           (λ k h. let other : k ≢ i = omega arith in rw get_or-set_other (c.loop-i.invariant.2 k h))
           (rw get_or-set_same size),

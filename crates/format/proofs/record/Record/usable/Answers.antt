@@ -23,7 +23,7 @@ returns c =
     let raster = c.args.self.now.raster in
     let bytes = bytes_of c.args.self.now in
     let levels = levels_test raster c.args.sbc c.args.top bytes in
-    let all : c.levels-fit.result ≡ usable raster c.args.sbc c.args.top bytes =
-    c.levels-fit.ensures ∙ ap (λ (v : Verdict). result_and v levels) c.in-ok-front-fits.ensures
+    let all : c.levels_fit.result ≡ usable raster c.args.sbc c.args.top bytes =
+    c.levels_fit.ensures ∙ ap (λ (v : Verdict). result_and v levels) c.in_ok-front_fits.ensures
     ∙ front_then_levels raster c.args.sbc c.args.top bytes in
     record { verdict = all; sound = λ ok. sound raster c.args.sbc c.args.top bytes (sym all ∙ ok) }
