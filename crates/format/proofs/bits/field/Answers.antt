@@ -23,9 +23,9 @@ same c =
     let w = window bytes q o n (c.ok.bytes (q + 1)).fits (omega arith) in
     rw (high, low, cut) (sym w ∙ ap (λ (k : ℕ). field_of bytes k n) start)
 
-pub overflow-cast-result-3 : goal.overflow-cast-result-3
-overflow-cast-result-3 c =
-    let e = same (goal.at.overflow-cast-result-3 c).After-from-low in
+pub overflow_cast-result-3 : goal.overflow_cast-result-3
+overflow_cast-result-3 c =
+    let e = same (goal.at.overflow_cast-result-3 c).After-from-low in
     let b = field_short c.args.bytes.now c.args.start c.args.count 8 (omega arith) in
     record { fits = omega arith }
 

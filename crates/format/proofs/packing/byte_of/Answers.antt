@@ -6,14 +6,14 @@ use Rattle.format.proofs.packing.byte_of.Goals as goal
 pub loop-bit-init : goal.loop-bit-init
 loop-bit-init c = sym (packed_none _ 0)
 
-pub overflow-mul-byte : goal.overflow-mul-byte
-overflow-mul-byte c =
+pub overflow_mul-byte : goal.overflow_mul-byte
+overflow_mul-byte c =
     let bit : ℕ → Bool = λ k. get_or c.args.bits k false in
     let b = packed_short bit 0 c.loop-bit.bit-index (omega arith) in
     record { fits = omega (arith, c.loop-bit.invariant) }
 
-pub overflow-add-byte : goal.overflow-add-byte
-overflow-add-byte c =
+pub overflow_add-byte : goal.overflow_add-byte
+overflow_add-byte c =
     let bit : ℕ → Bool = λ k. get_or c.args.bits k false in
     let b = packed_short bit 0 c.loop-bit.bit-index (omega arith) in
     let d = bool_digit (bit c.loop-bit.bit-index) in

@@ -27,14 +27,14 @@ part raster n words read count is =
     let all : n - 0 ≡ blocks raster = omega arith in
     ap (λ (k : ℕ). take k words) all ∙ is
 
-pub write-words-requires : goal.write-words-requires
-write-words-requires c =
+pub write_words-requires : goal.write_words-requires
+write_words-requires c =
     let front = c.args.front in
     let raster = front.raster in
     let read = map still (words_read raster (front_bytes front)) in
     let count : c.blocks-count.result ≡ blocks raster = c.blocks-count.ensures.value ∙ ap blocks c.raster-raster.ensures in
-    let words = part raster c.blocks-count.result c.still-words-words.result read count c.still-words-words.ensures in
-    let long = behind c.args.buffer.now c.head-byte.result (word_bytes raster) c.requires in
+    let words = part raster c.blocks-count.result c.still_words-words.result read count c.still_words-words.ensures in
+    let long = behind c.args.buffer.now c.head_byte.result (word_bytes raster) c.requires in
     record { ranged = subst Ranged (sym words) (still_ranged (words_read raster (front_bytes front))); few = omega arith }
 
 pub returns : goal.returns

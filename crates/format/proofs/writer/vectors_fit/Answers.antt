@@ -12,11 +12,11 @@ loop-i-init c =
     let all : 2 + length words - 2 ≡ length words = omega arith in
     ap (in_order (range_test words) 2) all
 
-pub returns-then-not-in-range : goal.returns-then-not-in-range
-returns-then-not-in-range c =
+pub returns-then-not-in_range : goal.returns-then-not-in_range
+returns-then-not-in_range c =
     let words = c.args.words.now in
     let i = c.loop-i.i in
-    let here = range_verdict words i false c.if-not-in-range.ensures in
+    let here = range_verdict words i false c.if-not-in_range.ensures in
     sym (in_order_here (range_test words) (2 + i) (2 + length words) (VectorRange (2 + i)) (omega arith) here) ∙ c.loop-i.invariant
 
 pub loop-i-preserved : goal.loop-i-preserved

@@ -10,18 +10,18 @@ loop-k-init c =
     let none : 8 * c.args.i - 8 * c.args.i ≡ 0 = omega arith in
     sym (ap (packed bit (8 * c.args.i)) none ∙ packed_none bit (8 * c.args.i))
 
-pub overflow-mul-byte : goal.overflow-mul-byte
-overflow-mul-byte c =
+pub overflow_mul-byte : goal.overflow_mul-byte
+overflow_mul-byte c =
     let start = 8 * c.args.i in
     let b = packed_short (words_bit c.args.words.now) start (c.loop-k.k - start) (omega arith) in
     record { fits = omega (arith, c.loop-k.invariant) }
 
-pub overflow-add-byte : goal.overflow-add-byte
-overflow-add-byte c =
+pub overflow_add-byte : goal.overflow_add-byte
+overflow_add-byte c =
     let start = 8 * c.args.i in
     let b = packed_short (words_bit c.args.words.now) start (c.loop-k.k - start) (omega arith) in
-    let d = bool_digit c.words-bit.result in
-    let m = digit_most c.words-bit.result in
+    let d = bool_digit c.words_bit.result in
+    let m = digit_most c.words_bit.result in
     record { fits = omega (arith, c.loop-k.invariant, c.from.ensures) }
 
 pub loop-k-preserved : goal.loop-k-preserved

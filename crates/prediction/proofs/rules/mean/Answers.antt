@@ -4,8 +4,8 @@ use Rattle.prediction.specs.Rules.{halved, mean}
 use Rattle.prediction.proofs.Means.{shift_halves, sum_fits, more_fits, mean_fits, mean_fits_16}
 use Rattle.prediction.proofs.rules.mean.Goals as goal
 
-pub overflow-cast-result-3 : goal.overflow-cast-result-3
-overflow-cast-result-3 c = grind (arith, ints)
+pub overflow_cast-result-3 : goal.overflow_cast-result-3
+overflow_cast-result-3 c = grind (arith, ints)
 
 pub returns : goal.returns
 returns c =

@@ -4,8 +4,8 @@ use Rattle.std.proofs.lemmas.Int.{ints, to_z-of_z}
 use Rattle.prediction.proofs.Means.{sum_within}
 use Rattle.prediction.proofs.rules.sum.Goals as goal
 
-pub returns-else-whole-gt-PEL-MAX : goal.returns-else-whole-gt-PEL-MAX
-returns-else-whole-gt-PEL-MAX c =
+pub returns-else-whole-gt-PEL_MAX : goal.returns-else-whole-gt-PEL_MAX
+returns-else-whole-gt-PEL_MAX c =
     let p = c.args.prediction in
     let v = c.args.value in
     let fp = c.ranges.prediction in

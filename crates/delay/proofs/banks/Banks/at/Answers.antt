@@ -11,5 +11,5 @@ returns-in-1 c = let read = read_place c.args.self.now c.args.place 1 c.requires
 pub returns-in-2 : goal.returns-in-2
 returns-in-2 c = let read = read_place c.args.self.now c.args.place 2 c.requires c.in-2.is in search rules
 
-pub returns-in-default : goal.returns-in-default
-returns-in-default c = let read = read_place c.args.self.now c.args.place 3 c.requires (omega arith) in search rules
+pub returns-in_default : goal.returns-in_default
+returns-in_default c = let read = read_place c.args.self.now c.args.place 3 c.requires (omega arith) in search rules

@@ -32,8 +32,8 @@ returns-in-2 c =
       rest = record { rows = refl; first = refl; second = refl; third = drop-set-lt _ b.third.now (c.args.place / 4) _ (row_inside c.args.place b.rows c.requires); fourth = refl };
     }
 
-pub returns-in-default : goal.returns-in-default
-returns-in-default c =
+pub returns-in_default : goal.returns-in_default
+returns-in_default c =
     let b = c.args.self.now in
     record {
       written = write_place b c.args.place 3 _ c.requires (omega arith) ∙ ap (set (pels b) c.args.place) (to_z-of_z c.ranges.x);

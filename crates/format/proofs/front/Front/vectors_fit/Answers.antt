@@ -7,12 +7,12 @@ use Rattle.format.proofs.InOrder.{in_order_here, in_order_past, in_order_done}
 use Rattle.format.proofs.Verdicts.{vector_verdict}
 use Rattle.format.proofs.front.Front.vectors_fit.Goals as goal
 
-pub returns-then-bad-vector : goal.returns-then-bad-vector
-returns-then-bad-vector c =
+pub returns-then-bad_vector : goal.returns-then-bad_vector
+returns-then-bad_vector c =
     let raster = c.args.self.now.raster in
     let bytes = front_bytes c.args.self.now in
     let block = c.loop-block.block in
-    let here = vector_verdict raster bytes block c.word-of.result true c.word-of.ensures c.if-bad-vector.ensures in
+    let here = vector_verdict raster bytes block c.word_of.result true c.word_of.ensures c.if-bad_vector.ensures in
     sym (in_order_here (vector_test raster bytes) block (2 + blocks raster) (VectorRange block) (omega arith) here)
     ∙ c.loop-block.invariant
 

@@ -1,5 +1,5 @@
 use Rattle.std.proofs.Common.{arith}
 use Rattle.format.proofs.front.Front.words.Goals as goal
 
-pub slice-bounds-result-end : goal.slice-bounds-result-end
-slice-bounds-result-end c = omega arith
+pub slice_bounds-result-end : goal.slice_bounds-result-end
+slice_bounds-result-end c = omega arith

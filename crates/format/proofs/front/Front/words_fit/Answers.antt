@@ -7,14 +7,14 @@ use Rattle.format.proofs.InOrder.{in_order_here, in_order_past, in_order_done}
 use Rattle.format.proofs.Verdicts.{word_verdict}
 use Rattle.format.proofs.front.Front.words_fit.Goals as goal
 
-pub returns-then-stray-word : goal.returns-then-stray-word
-returns-then-stray-word c =
+pub returns-then-stray_word : goal.returns-then-stray_word
+returns-then-stray_word c =
     let raster = c.args.self.now.raster in
     let bytes = front_bytes c.args.self.now in
     let block = c.loop-block.block in
     let test = word_test raster c.args.sbc bytes in
-    let here = word_verdict raster c.args.sbc bytes block c.head-head.result c.word-of.result true
-    c.head-head.ensures c.word-of.ensures c.if-stray-word.ensures in
+    let here = word_verdict raster c.args.sbc bytes block c.head-head.result c.word_of.result true
+    c.head-head.ensures c.word_of.ensures c.if-stray_word.ensures in
     sym (in_order_here test block (2 + blocks raster) (StrayWord block) (omega arith) here) ∙ c.loop-block.invariant
 
 pub loop-block-preserved : goal.loop-block-preserved

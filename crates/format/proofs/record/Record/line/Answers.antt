@@ -4,9 +4,9 @@ use Rattle.format.specs.Record.{line_in}
 use Rattle.format.proofs.RasterLaws.{record_length_is}
 use Rattle.format.proofs.record.Record.line.Goals as goal
 
-pub slice-bounds-result-end : goal.slice-bounds-result-end
-slice-bounds-result-end c =
-    let n = c.line-levels-count.result in
+pub slice_bounds-result-end : goal.slice_bounds-result-end
+slice_bounds-result-end c =
+    let n = c.line_levels-count.result in
     let long = record_length_is c.args.self.now.raster in
     let before : c.args.line - 1 ≤ 7 = search rules in
     let rows = mul-le (c.args.line - 1) n 7 n before (omega arith) in

@@ -3,7 +3,7 @@ use Rattle.quantizer.specs.Table.{step_of}
 use Rattle.quantizer.specs.Rows.{step_fits}
 use Rattle.quantizer.proofs.table.StandardSetCharacteristicSet.number.Goals as goal
 
-pub with-sign-requires : goal.with-sign-requires
-with-sign-requires c =
-    let m = c.unsigned-abs-size.result in
-    omega (arith, c.step-of.ensures, ap (λ r. step_of r m) c.row.ensures, step_fits c.args.q m (omega arith))
+pub with_sign-requires : goal.with_sign-requires
+with_sign-requires c =
+    let m = c.unsigned_abs-size.result in
+    omega (arith, c.step_of.ensures, ap (λ r. step_of r m) c.row.ensures, step_fits c.args.q m (omega arith))

@@ -16,12 +16,12 @@ inside c = omega (arith, (at c).0, length-pels c.args.self.now)
 pub put-requires : goal.put-requires
 put-requires c = inside (goal.at.put-requires c).In-Some
 
-pub overflow-add-self : goal.overflow-add-self
-overflow-add-self c = let h : c.in-Some.place < c.args.self.now.rows * 4 = inside (goal.at.overflow-add-self c).In-Some in search rules
+pub overflow_add-self : goal.overflow_add-self
+overflow_add-self c = let h : c.in-Some.place < c.args.self.now.rows * 4 = inside (goal.at.overflow_add-self c).In-Some in search rules
 
-pub invariant-of-self : goal.invariant-of-self
-invariant-of-self c =
-    let h : c.in-Some.place < c.args.self.now.rows * 4 = inside (goal.at.invariant-of-self c).In-Some in
+pub invariant_of-self : goal.invariant_of-self
+invariant_of-self c =
+    let h : c.in-Some.place < c.args.self.now.rows * 4 = inside (goal.at.invariant_of-self c).In-Some in
     let b = c.put.new.self in
     let within : c.in-Some.place + 1 ≤ b.rows * 4 = omega (arith, c.put.ensures.rest.rows) in
     (b.firsts, (b.seconds, (b.thirds, (b.fourths, (b.few, (within, tt))))))
@@ -34,9 +34,9 @@ returns-in-Some c =
       rest = record { rows = kept.rows; first = kept.first; second = kept.second; third = kept.third; fourth = kept.fourth };
     }
 
-pub returns-in-default : goal.returns-in-default
-returns-in-default c =
+pub returns-in_default : goal.returns-in_default
+returns-in_default c =
     record {
-      held = enters c.args.self.now.next (pels c.args.self.now) c.args.x _ None (length-pels c.args.self.now) c.args.self.now.within c.in-default.ensures;
+      held = enters c.args.self.now.next (pels c.args.self.now) c.args.x _ None (length-pels c.args.self.now) c.args.self.now.within c.in_default.ensures;
       rest = record { rows = refl; first = refl; second = refl; third = refl; fourth = refl };
     }

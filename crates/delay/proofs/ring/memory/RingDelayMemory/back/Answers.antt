@@ -7,8 +7,8 @@ use Rattle.delay.proofs.ring.memory.RingDelayMemory.back.Goals.{In-Some}
 at : (g : _) (c : In-Some g) → Lies c.args.self.now.next c.args.self.now.cells.now c.args.n (Some c.in-Some.place)
 at g c = lies _ _ _ c.args.n (Some c.in-Some.place) refl c.args.self.now.within c.in-Some.ensures
 
-pub offset-bounds-cells-place : goal.offset-bounds-cells-place
-offset-bounds-cells-place g c = let inside : c.in-Some.place < length c.args.self.now.cells.now = (at g c).0 in search rules
+pub offset_bounds-cells-place : goal.offset_bounds-cells-place
+offset_bounds-cells-place g c = let inside : c.in-Some.place < length c.args.self.now.cells.now = (at g c).0 in search rules
 
 pub bounds-cells-place : goal.bounds-cells-place
 bounds-cells-place g c = (at g c).0

@@ -7,20 +7,20 @@ use Rattle.delay.proofs.ring.memory.RingDelayMemory.enter.Goals.{In-Some}
 at : (g : _) (c : In-Some g) → Enters c.args.self.now.next c.args.self.now.cells.now c.args.x (Some c.in-Some.place)
 at g c = enters _ _ c.args.x _ (Some c.in-Some.place) refl c.args.self.now.within c.in-Some.ensures
 
-pub offset-bounds-self-place : goal.offset-bounds-self-place
-offset-bounds-self-place g c = let inside : c.in-Some.place < length c.args.self.now.cells.now = (at g c).0 in search rules
+pub offset_bounds-self-place : goal.offset_bounds-self-place
+offset_bounds-self-place g c = let inside : c.in-Some.place < length c.args.self.now.cells.now = (at g c).0 in search rules
 
 pub bounds-self-place : goal.bounds-self-place
 bounds-self-place g c = (at g c).0
 
-pub overflow-add-self : goal.overflow-add-self
-overflow-add-self g c = let inside : c.in-Some.place < length c.args.self.now.cells.now = (at g (goal.at.overflow-add-self g c).In-Some).0 in search rules
+pub overflow_add-self : goal.overflow_add-self
+overflow_add-self g c = let inside : c.in-Some.place < length c.args.self.now.cells.now = (at g (goal.at.overflow_add-self g c).In-Some).0 in search rules
 
-pub invariant-of-self : goal.invariant-of-self
-invariant-of-self g c = let inside : c.in-Some.place < length c.args.self.now.cells.now = (at g (goal.at.invariant-of-self g c).In-Some).0 in search rules
+pub invariant_of-self : goal.invariant_of-self
+invariant_of-self g c = let inside : c.in-Some.place < length c.args.self.now.cells.now = (at g (goal.at.invariant_of-self g c).In-Some).0 in search rules
 
 pub returns-in-Some : goal.returns-in-Some
 returns-in-Some g c = (at g (goal.at.returns-in-Some g c).In-Some).1
 
-pub returns-in-default : goal.returns-in-default
-returns-in-default g c = enters c.args.self.now.next c.args.self.now.cells.now c.args.x _ None refl c.args.self.now.within c.in-default.ensures
+pub returns-in_default : goal.returns-in_default
+returns-in_default g c = enters c.args.self.now.next c.args.self.now.cells.now c.args.x _ None refl c.args.self.now.within c.in_default.ensures
