@@ -20,7 +20,7 @@ same c =
     let low = c.from-low.ensures ∙ c.byte_at-2.ensures in
     let cut = one_shl n 32 (omega arith) in
     let start : 8 * q + o ≡ c.args.start = omega arith in
-    let w = window bytes q o n (c.ok.bytes (q + 1)).fits (omega arith) in
+    let w = window bytes q o n (c.type_inv.bytes (q + 1)).fits (omega arith) in
     rw (high, low, cut) (sym w ∙ ap (λ (k : ℕ). field_of bytes k n) start)
 
 pub overflow_cast-result-3 : goal.overflow_cast-result-3

@@ -24,7 +24,7 @@ invariant_of-self c =
     let h : c.in-Some.place < c.args.self.now.rows * 4 = inside (goal.at.invariant_of-self c).In-Some in
     let b = c.put.new.self in
     let within : c.in-Some.place + 1 ≤ b.rows * 4 = omega (arith, c.put.ensures.rest.rows) in
-    (b.firsts, (b.seconds, (b.thirds, (b.fourths, (b.few, (within, tt))))))
+    record { firsts = b.firsts; seconds = b.seconds; thirds = b.thirds; fourths = b.fourths; few = b.few; within = within }
 
 pub returns-in-Some : goal.returns-in-Some
 returns-in-Some c =
