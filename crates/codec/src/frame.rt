@@ -1,5 +1,5 @@
 // What both ends do with a frame in hand: its tests, and what its pending line does.
-ghost use Rattle.std.specs.Prelude.{◌≡◌, ◌*◌, ◌<◌, ◌||◌, if◌then◌else◌, OnOk, ◌==◌, nat_eq, nat_le, nat_lt};
+ghost use Rattle.std.specs.Prelude.{◌≡◌, ◌*◌, ◌<◌, ◌||◌, if◌then◌else◌, OnOk, ◌==◌, nat_le, nat_lt};
 ghost use Rattle.std.specs.Int.Bits.{bit_xor};
 ghost use Rattle.codec.specs.Block.{geometry_of, control_of, line_is_forced};
 ghost use Rattle.codec.specs.Decoder.{reach_test, block_lines, between_fields, parity_of};
@@ -128,7 +128,7 @@ pub(crate) fn last_forced(header: Header, head: Head) -> bool
 
 // What stands above line 1 of the next block-line: a reset line where a field begins.
 pub(crate) fn above_next(raster: Raster, done: usize, forced: bool) -> Above
-    ensures { result ≡ (if nat_eq done 0 || (done == raster).block_lines then Reset else Pending forced) }
+    ensures { result ≡ (if done == 0 || done == raster.block_lines then Reset else Pending forced) }
 {
     if done == 0 || done == raster.block_lines() {
         Above::Reset

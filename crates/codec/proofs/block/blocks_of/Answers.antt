@@ -10,11 +10,11 @@ loop-i-preserved c =
     let a = c.args in
     let within : c.loop-i.i < length c.loop-i.blocks = omega (arith, c.loop-i.invariant.0) in
     let same =
-    c.modes-of.ensures
+    c.modes_of.ensures
     ∙ ap (λ h. modes_of a.g a.sbc h c.word.result) c.requires.headed
     ∙ ap (λ w. modes_of a.g a.sbc (head_in (read_bytes a.reader)) w) (c.word.ensures ∙ ap (λ b. cond b (word_at a.reader.raster (read_bytes a.reader) (c.loop-i.i + 1)) None) c.requires.whole) in (
-      length-set c.loop-i.blocks c.loop-i.i c.modes-of.result ∙ c.loop-i.invariant.0,
-      blocks_more a.g a.reader.raster a.sbc (read_bytes a.reader) c.loop-i.blocks c.loop-i.i c.modes-of.result within same c.loop-i.invariant.1,
+      length-set c.loop-i.blocks c.loop-i.i c.modes_of.result ∙ c.loop-i.invariant.0,
+      blocks_more a.g a.reader.raster a.sbc (read_bytes a.reader) c.loop-i.blocks c.loop-i.i c.modes_of.result within same c.loop-i.invariant.1,
     )
 
 pub returns : goal.returns

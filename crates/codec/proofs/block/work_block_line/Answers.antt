@@ -9,9 +9,9 @@ loop-i-preserved g c =
     let a = c.args in
     let bytes = read_bytes a.reader in
     let value = record_value (g.S.CharacteristicSet.tops a.set.now) (g.S.CharacteristicSet.values a.set.now) bytes in
-    let few : c.work-numbered-counted.result.held ≤ a.tally.held + 500 * (c.loop-i.i + 1) = omega (arith, c.work-numbered-counted.ensures.few, c.loop-i.invariant.1) in (
-      lines_more a.reader.raster a.header a.second a.above value bytes c.loop-i.i _ _ c.geometry-g.result c.blocks-of-blocks.result c.loop-i-test.true
-          (c.geometry-g.ensures.value ∙ ap geometry_of c.raster.ensures) c.blocks-of-blocks.ensures c.work-numbered-counted.ensures.does
+    let few : c.work_numbered-counted.result.held ≤ a.tally.held + 500 * (c.loop-i.i + 1) = omega (arith, c.work_numbered-counted.ensures.few, c.loop-i.invariant.1) in (
+      lines_more a.reader.raster a.header a.second a.above value bytes c.loop-i.i _ _ c.geometry-g.result c.blocks_of-blocks.result c.loop-i-test.true
+          (c.geometry-g.ensures.value ∙ ap geometry_of c.raster.ensures) c.blocks_of-blocks.ensures c.work_numbered-counted.ensures.does
           ∙ c.loop-i.invariant.0,
       few,
     )

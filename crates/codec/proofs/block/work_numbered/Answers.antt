@@ -7,12 +7,12 @@ use Rattle.codec.specs.Block.{line_modes}
 use Rattle.codec.proofs.BlockLines.{line_short, line_same}
 use Rattle.codec.proofs.block.work_numbered.Goals as goal
 
-pub work-line-requires : goal.work-line-requires
-work-line-requires g c =
+pub work_line-requires : goal.work_line-requires
+work_line-requires g c =
     let a = c.args in
     let short : length c.in-Some.levels.bytes.now ≤ 452 =
     subst (λ (xs : List ℕ). length xs ≤ 452) (sym c.in-Some.ensures.3) (line_short a.reader.raster (read_bytes a.reader) a.number) in
-    record { narrow = c.requires.narrow; few-held = c.requires.few-held; short = omega arith }
+    record { narrow = c.requires.narrow; few_held = c.requires.few_held; short = omega arith }
 
 pub returns-in-Some : goal.returns-in-Some
 returns-in-Some g c =
@@ -22,10 +22,10 @@ returns-in-Some g c =
     subst (λ (xs : List ℕ). length xs ≤ 452) (sym c.in-Some.ensures.3) (line_short a.reader.raster (read_bytes a.reader) a.number) in
     record {
       does =
-          c.work-line.ensures.does
+          c.work_line.ensures.does
           ∙ line_same a.g _ _ _ _ a.blocks.now (g.S.CharacteristicSet.tops a.set.now) (g.S.CharacteristicSet.values a.set.now) _ _ _ _ _
-          c.control-of-control.ensures (c.line-modes-line.ensures ∙ ap (λ (h : Head). line_modes a.header h a.second a.above a.number) head)
-          (c.from-bits-q.ensures ∙ ap (λ (h : Head). chosen h.qc1 h.qc2) head)
+          c.control_of-control.ensures (c.line_modes-line.ensures ∙ ap (λ (h : Head). line_modes a.header h a.second a.above a.number) head)
+          (c.from_bits-q.ensures ∙ ap (λ (h : Head). chosen h.qc1 h.qc2) head)
           c.in-Some.ensures.3;
-      few = omega (arith, c.work-line.ensures.few);
+      few = omega (arith, c.work_line.ensures.few);
     }

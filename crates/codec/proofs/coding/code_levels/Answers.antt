@@ -15,13 +15,13 @@ loop-i-preserved g c =
     let meaning = signal g.P.DelayMemory.held g.B.DelayMemory.held g.L.DelayMemory.held g.K.DelayMemory.held in
     let z = get_or a.picture.now i (pos 0) in
     let fz : SFits w8 z = search rules in
-    let few : c.code-pel-coded.result.tally.held ≤ a.tally.held + (i + 1) = omega (arith, c.code-pel-coded.ensures.few, c.loop-i.invariant.2) in
-    let found = c.code-pel-coded.ensures.found ∙ ap (λ y. level_at number a.stop a.g a.line c.block-at-block.result (i + 4) y (meaning c.loop-i.m)) (to_z-of_z w8 z fz) in (
-      code_more number a.stop a.g a.control a.line a.blocks.now value a.picture.now c.loop-i.levels i _ _ c.block-at-block.result
-          c.code-pel-coded.result.level _ c.loop-i-test.true c.loop-i.invariant.1
-          c.block-at-block.ensures found refl c.code-pel-coded.ensures.does
+    let few : c.code_pel-coded.result.tally.held ≤ a.tally.held + (i + 1) = omega (arith, c.code_pel-coded.ensures.few, c.loop-i.invariant.2) in
+    let found = c.code_pel-coded.ensures.found ∙ ap (λ y. level_at number a.stop a.g a.line c.block_at-block.result (i + 4) y (meaning c.loop-i.m)) (to_z-of_z w8 z fz) in (
+      code_more number a.stop a.g a.control a.line a.blocks.now value a.picture.now c.loop-i.levels i _ _ c.block_at-block.result
+          c.code_pel-coded.result.level _ c.loop-i-test.true c.loop-i.invariant.1
+          c.block_at-block.ensures found refl c.code_pel-coded.ensures.does
           ∙ c.loop-i.invariant.0,
-      length-set c.loop-i.levels i c.code-pel-coded.result.level ∙ c.loop-i.invariant.1,
+      length-set c.loop-i.levels i c.code_pel-coded.result.level ∙ c.loop-i.invariant.1,
       few,
     )
 

@@ -15,6 +15,6 @@ returns g c =
     record {
       does =
           code_same number a.stop a.g a.control a.line a.blocks.now value _ _ (drop 3 zs) _ _
-          c.code-levels.ensures.does part c.work-clamped-clamped.ensures.does;
-      few = omega (arith, long, c.code-levels.ensures.few, c.work-clamped-clamped.ensures.few);
+          c.code_levels.ensures.does part c.work_clamped-clamped.ensures.does;
+      few = omega (arith, long, c.code_levels.ensures.few, c.work_clamped-clamped.ensures.few);
     }

@@ -6,7 +6,7 @@ use Rattle.codec.proofs.coding.error_number.Goals as goal
 pub returns : goal.returns
 returns g c =
     let a = c.args in
-    let r = c.unwrap-or.result in
+    let r = c.unwrap_or.result in
     let fits : SFits w8 r = search rules in
-    to_z-of_z w8 r fits ∙ c.unwrap-or.ensures ∙ ap (λ o. unwrap_or o (pos 0)) c.number.ensures
+    to_z-of_z w8 r fits ∙ c.unwrap_or.ensures ∙ ap (λ o. unwrap_or o (pos 0)) c.number.ensures
     ∙ error_number (g.S.CharacteristicSet.numbers a.set.now a.q) a.pel a.predicted c.ranges.pel c.ranges.predicted

@@ -5,7 +5,7 @@ use Rattle.codec.proofs.line.enter_resets.Goals as goal
 
 pub loop-i-preserved : goal.loop-i-preserved
 loop-i-preserved g c =
-    ap (resets (c.args.count - (c.loop-i.i + 1))) c.enter-reset.ensures
+    ap (resets (c.args.count - (c.loop-i.i + 1))) c.enter_reset.ensures
     ∙ sym (resets_more c.args.count c.loop-i.i _ c.loop-i-test.true)
     ∙ c.loop-i.invariant
 

@@ -9,13 +9,13 @@ loop-i-preserved g c =
     let y = c.settled-y.result in
     let fits : SFits w8 y = search rules in
     let next =
-    flush_more c.args.g c.args.control c.args.is-forced c.loop-i.i _ _ (to_z w8 (of_z w8 y)) c.loop-i-test.true
-    (to_z-of_z w8 y fits ∙ c.settled-y.ensures) c.enter-y-counted.ensures in
-    (next ∙ c.loop-i.invariant.0, ap (λ (x : Course). x.tally.held) c.enter-y-counted.ensures ∙ c.loop-i.invariant.1)
+    flush_more c.args.g c.args.control c.args.is_forced c.loop-i.i _ _ (to_z w8 (of_z w8 y)) c.loop-i-test.true
+    (to_z-of_z w8 y fits ∙ c.settled-y.ensures) c.enter_y-counted.ensures in
+    (next ∙ c.loop-i.invariant.0, ap (λ (x : Course). x.tally.held) c.enter_y-counted.ensures ∙ c.loop-i.invariant.1)
 
 pub returns : goal.returns
 returns g c =
     record {
-      does = flush_all c.args.g c.args.control c.args.is-forced c.loop-i.i _ c.loop-i-test.false ∙ c.loop-i.invariant.0;
+      does = flush_all c.args.g c.args.control c.args.is_forced c.loop-i.i _ c.loop-i-test.false ∙ c.loop-i.invariant.0;
       same = c.loop-i.invariant.1;
     }

@@ -17,16 +17,16 @@ returns g c =
     let front = a.front.now in
     let picture = a.picture.now in
     let s = meaning a.m.now in
-    let e = coded c.code-record.new.buffer (course (meaning c.code-record.new.m) c.code-record.result) in
+    let e = coded c.code_record.new.buffer (course (meaning c.code_record.new.m) c.code_record.result) in
     let done = a.self.now.done in
     let same =
-    record_coded tops values numbers f front a.stop picture s e (leb c.block-lines.result done) c.above-next-above.result
-    (course (meaning c.between-fields-counted.new.m) c.between-fields-counted.result) (ap (λ (n : ℕ). leb n done) c.block-lines.ensures.value) c.above-next-above.ensures
-    c.between-fields-counted.ensures.does c.code-record.ensures.does in
+    record_coded tops values numbers f front a.stop picture s e (leb c.block_lines.result done) c.above_next-above.result
+    (course (meaning c.between_fields-counted.new.m) c.between_fields-counted.result) (ap (λ (n : ℕ). leb n done) c.block_lines.ensures.value) c.above_next-above.ensures
+    c.between_fields-counted.ensures.does c.code_record.ensures.does in
     record {
       written = ap (λ (x : Coded). x.levels) same ∙ sym (record_is tops values numbers f front a.stop picture s);
       does =
           ap (λ (x : Coded). x.after) same
           ∙ sym (coded_course tops values numbers f front a.stop picture s c.requires.fronted c.requires.pels);
-      few = omega (arith, c.code-record.ensures.few, c.between-fields-counted.ensures.same);
+      few = omega (arith, c.code_record.ensures.few, c.between_fields-counted.ensures.same);
     }

@@ -25,22 +25,22 @@ loop-i-init g c =
     a.second a.above (take (front_length r) start) a.stop a.picture.now 1 8 (course (meaning a.m.now) a.tally) in
     (ap (λ (k : ℕ). before (take k start) all) none, omega arith)
 
-pub slice-bounds-code-numbered-end : goal.slice-bounds-code-numbered-end
-slice-bounds-code-numbered-end g c =
+pub slice_bounds-code_numbered-end : goal.slice_bounds-code_numbered-end
+slice_bounds-code_numbered-end g c =
     let wide = ap (λ (x : Geometry). x.width) c.geometry-g.ensures.value in
     omega (arith, row_within c.loop-i.i c.geometry-g.result.width c.loop-i-test.true, c.requires.pels)
 
-pub slice-bounds-code-numbered-end-in-loop-i : goal.slice-bounds-code-numbered-end-in-loop-i
-slice-bounds-code-numbered-end-in-loop-i g c =
-    omega (arith, row_within c.loop-i.i c.line-levels-count.result c.loop-i-test.true, c.requires.room, c.loop-i.auto.buffer, record_length_is c.args.raster)
+pub slice_bounds-code_numbered-end-in-loop-i : goal.slice_bounds-code_numbered-end-in-loop-i
+slice_bounds-code_numbered-end-in-loop-i g c =
+    omega (arith, row_within c.loop-i.i c.line_levels-count.result c.loop-i-test.true, c.requires.room, c.loop-i.auto.buffer, record_length_is c.args.raster)
 
-pub code-numbered-counted-requires : goal.code-numbered-counted-requires
-code-numbered-counted-requires g c =
+pub code_numbered-counted-requires : goal.code_numbered-counted-requires
+code_numbered-counted-requires g c =
     let a = c.args in
     let i = c.loop-i.i in
     let w = c.geometry-g.result.width in
-    let count = c.line-levels-count.result in
-    let place = c.front-length-first.result + i * count in
+    let count = c.line_levels-count.result in
+    let place = c.front_length-first.result + i * count in
     let wide : w ≡ width a.raster = ap (λ (x : Geometry). x.width) c.geometry-g.ensures.value in
     let colour = ap (λ (x : Geometry). x.colour) c.geometry-g.ensures.value in
     let pels = length-between a.picture.now (i * w) (i * w + w) (omega (arith, row_within i w c.loop-i-test.true, c.requires.pels)) in
@@ -51,9 +51,9 @@ code-numbered-counted-requires g c =
     record {
       narrow = omega arith;
       colours = omega arith;
-      few-held = omega (arith, c.loop-i.invariant.1, c.requires.few-held);
+      few_held = omega (arith, c.loop-i.invariant.1, c.requires.few_held);
       short = omega arith;
-      as_long = omega (arith, c.line-levels-count.ensures.value);
+      as_long = omega (arith, c.line_levels-count.ensures.value);
     }
 
 pub loop-i-preserved : goal.loop-i-preserved
@@ -61,10 +61,10 @@ loop-i-preserved g c =
     let a = c.args in
     let i = c.loop-i.i in
     let w = c.geometry-g.result.width in
-    let count = c.line-levels-count.result in
-    let place = c.front-length-first.result + i * count in
+    let count = c.line_levels-count.result in
+    let place = c.front_length-first.result + i * count in
     let meaning = signal g.P.DelayMemory.held g.B.DelayMemory.held g.L.DelayMemory.held g.K.DelayMemory.held in
-    let coded-line = c.code-numbered-counted in
+    let coded-line = c.code_numbered-counted in
     let wide : w ≡ width a.raster = ap (λ (x : Geometry). x.width) c.geometry-g.ensures.value in
     let room : length c.loop-i.buffer ≡ record_length a.raster = c.loop-i.auto.buffer ∙ c.requires.room in
     let within = row_within i count c.loop-i-test.true in
@@ -75,8 +75,8 @@ loop-i-preserved g c =
     omega (arith, coded-line.ensures.few, c.loop-i.invariant.1, c.geometry-g.ensures.narrow, width_most a.raster) in (
       line_turn (g.S.CharacteristicSet.tops a.set.now) (g.S.CharacteristicSet.values a.set.now) (g.S.CharacteristicSet.numbers a.set.now) a.raster
           a.header a.second a.above a.stop a.picture.now a.buffer.now c.requires.room a.head c.geometry-g.result a.blocks.now
-          c.front-length-first.result count c.requires.headed c.geometry-g.ensures.value c.requires.blocked c.front-length-first.ensures.value
-          c.line-levels-count.ensures.value i (course (meaning c.loop-i.m) c.loop-i.counted) (course (meaning coded-line.new.m) coded-line.result)
+          c.front_length-first.result count c.requires.headed c.geometry-g.ensures.value c.requires.blocked c.front_length-first.ensures.value
+          c.line_levels-count.ensures.value i (course (meaning c.loop-i.m) c.loop-i.counted) (course (meaning coded-line.new.m) coded-line.result)
           c.loop-i.buffer coded-line.new.levels c.loop-i-test.true room long coded-line.ensures.does
           ∙ c.loop-i.invariant.0,
       few,
