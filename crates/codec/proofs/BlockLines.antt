@@ -1,7 +1,7 @@
 -- The lines of a block-line, worked one after another.
-use Rattle.std.proofs.Common.{◌≡◌, ℕ, suc, ◌+◌, ◌-◌, ◌<◌, ◌≤◌, Bool, List, length, ℤ, sym, refl, ap, ◌∙◌, arith, length-take}
+use Rattle.std.proofs.Common.{◌≡◌, ℕ, ◌+◌, ◌-◌, ◌<◌, ◌≤◌, Bool, List, length, ℤ, sym, ap, ◌∙◌, arith, length-take}
 use Rattle.format.proofs.RasterLaws.{width_most}
-use Rattle.format.specs.Record.{line_in, line_start}
+use Rattle.format.specs.Record.{line_in}
 use Rattle.format.specs.declared.raster.Raster.{Raster}
 use Rattle.quantizer.specs.declared.characteristic.Characteristic.{Characteristic}
 use Rattle.format.specs.Record.{head_in}

@@ -5,7 +5,6 @@ use Rattle.std.proofs.lemmas.List.Edits.{fill_by_more}
 use Rattle.std.proofs.lemmas.List.{ext_get_or}
 use Rattle.format.specs.Record.{head_in, word_at}
 use Rattle.format.specs.declared.raster.Raster.{Raster}
-use Rattle.format.specs.declared.words.Head.{Head}
 use Rattle.codec.specs.Block.{modes_of, blocks_of, most_blocks}
 use Rattle.codec.specs.Line.{burst_modes}
 use Rattle.codec.specs.declared.modes.BlockModes.{BlockModes}

@@ -1,5 +1,5 @@
 -- The error of a pel has a number.
-use Rattle.std.proofs.Common.{◌≡◌, ℕ, ◌≤◌, ℤ, pos, ◌-ℤ◌, nat_abs, unwrap_or, ap, ◌∙◌, arith, w8, w16, SFits, to_z, of_z}
+use Rattle.std.proofs.Common.{◌≡◌, ◌≤◌, ℤ, pos, ◌-ℤ◌, nat_abs, unwrap_or, ap, ◌∙◌, arith, w8, w16, SFits, to_z, of_z}
 use Rattle.std.proofs.lemmas.Int.{ints}
 use Rattle.quantizer.proofs.Uses.{within_some}
 use Rattle.quantizer.specs.Lawful.{within, largest_error}

@@ -6,3 +6,4 @@ pub mod Errors
 pub mod CodedLines
 pub mod CodedRecords
 pub mod CodedBlocks
+pub mod Readings

@@ -1,5 +1,5 @@
 -- A block-line: the modes of its blocks and lines, and its eight lines one after another.
-use Rattle.std.specs.Prelude.{ℕ, zero, suc, ◌+◌, ◌-◌, ◌*◌, Bool, true, false, cond, not, ◌||◌, List, map, ℤ, pos, negsuc, ◌+ℤ◌, ◌*ℤ◌, Some, None, Option, ◌==◌}
+use Rattle.std.specs.Prelude.{ℕ, zero, suc, ◌+◌, ◌-◌, ◌*◌, Bool, cond, List, map, ℤ, pos, negsuc, ◌+ℤ◌, ◌*ℤ◌, Some, None, Option, ◌==◌}
 use Rattle.std.specs.List.{range_with_len}
 use Rattle.format.specs.Modes.{subsampled, forced_line, repeated}
 use Rattle.format.specs.Raster.{width, frame}
@@ -10,12 +10,11 @@ use Rattle.format.specs.declared.words.BlockWord.{BlockWord}
 use Rattle.format.specs.declared.words.Head.{Head}
 use Rattle.quantizer.specs.Choice.{chosen}
 use Rattle.quantizer.specs.declared.characteristic.Characteristic.{Characteristic}
-use Rattle.codec.specs.Line.{burst_modes, line_work, level_value, flush, resets}
-use Rattle.codec.specs.Signal.{Signal}
+use Rattle.codec.specs.Line.{burst_modes, line_work, level_value}
 use Rattle.codec.specs.Step.{Course}
 use Rattle.prediction.specs.declared.marks.BackgroundControl.{BackgroundControl}
 use Rattle.codec.specs.declared.modes.Above.{Above}
-use Rattle.codec.specs.declared.modes.Above.TheVariants.{Reset, Pending}
+use Rattle.codec.specs.declared.modes.Above.TheVariants.{Pending}
 use Rattle.codec.specs.declared.modes.BlockModes.{BlockModes}
 use Rattle.codec.specs.declared.modes.Geometry.{Geometry}
 use Rattle.codec.specs.declared.modes.LineModes.{LineModes}

@@ -1,6 +1,6 @@
 -- The coder: what each of its calls answers and writes, and what the memories hold next. Its memories move
 -- as a decoder's do that is given what the coder writes.
-use Rattle.std.specs.Prelude.{ℕ, zero, suc, ◌+◌, ◌-◌, ◌*◌, Bool, cond, List, [], ◌∷◌, ◌++◌, length, ℤ, Ok, Err, Result, nat_le}
+use Rattle.std.specs.Prelude.{ℕ, zero, suc, ◌+◌, ◌-◌, ◌*◌, Bool, List, [], ◌∷◌, ◌++◌, length, ℤ, Ok, Err, Result, nat_le}
 use Rattle.std.specs.Result.{result_and}
 use Rattle.std.specs.List.{between}
 use Rattle.format.specs.Front.{front_length, front_written}

@@ -1,10 +1,10 @@
 -- What a coder finds: the prepared picture, the level of a pel, and the levels of a line.
 use Rattle.std.specs.Prelude.{ℕ, ◌+◌, ◌-◌, Bool, true, false, cond, not, ◌&&◌, ◌||◌, List, [], ◌∷◌, drop, ℤ, pos, negsuc, ◌-ℤ◌, ◌==◌, int_lt, nat_le}
 use Rattle.prediction.specs.Rules.{prediction, byte}
-use Rattle.codec.specs.Line.{block_at, clamped_pels, level_value}
-use Rattle.codec.specs.Modes.{pel_mode}
-use Rattle.codec.specs.Signal.{Signal}
-use Rattle.codec.specs.Step.{Course, reading_as, step}
+use Rattle.codec.specs.Line.{block_at, clamped_pels}
+use Rattle.codec.specs.Modes.{pel_mode, lag}
+use Rattle.codec.specs.Signal.{Signal, pel_at}
+use Rattle.codec.specs.Step.{Course, intraframe_at, around, step}
 use Rattle.prediction.specs.declared.marks.BackgroundControl.{BackgroundControl}
 use Rattle.codec.specs.declared.modes.BlockModes.{BlockModes}
 use Rattle.codec.specs.declared.modes.Geometry.{Geometry}
@@ -33,8 +33,14 @@ prediction_from (Intraframe i) = i
 prediction_from (FrameBefore y) = y
 prediction_from (Surroundings a) = prediction a
 
+-- the prediction of a pel, by how it is worked; a pel that is not coded has none
 abbrev pub prediction_as : PelMode → Geometry → LineModes → BlockModes → ℕ → Signal → ℤ
-prediction_as mode g l b p s = prediction_from (reading_as mode g l b p s)
+prediction_as Clamped g l b p s = pos 0
+prediction_as Repeated g l b p s = pos 0
+prediction_as Subsampled g l b p s = pos 0
+prediction_as Forced g l b p s = intraframe_at s
+prediction_as Burst g l b p s = pel_at s.picture (g.frame - lag g l.above p)
+prediction_as Adaptive g l b p s = prediction (around g l.above b p s)
 
 abbrev pub is_coded : PelMode → Bool
 is_coded Clamped = false

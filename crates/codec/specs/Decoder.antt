@@ -1,5 +1,5 @@
 -- The decoder: what each of its calls answers and what the memories hold next.
-use Rattle.std.specs.Prelude.{◌≡◌, ℕ, ◌+◌, ◌*◌, Bool, true, false, cond, not, ◌||◌, List, length, ℤ, Ok, Err, Result, ◌==◌, bit_xor, nat_le, nat_lt}
+use Rattle.std.specs.Prelude.{◌≡◌, ℕ, ◌+◌, ◌*◌, Bool, true, false, cond, ◌||◌, List, length, ℤ, Ok, Err, Result, ◌==◌, bit_xor, nat_le, nat_lt}
 use Rattle.std.specs.Result.{result_and}
 use Rattle.format.specs.Header.{read_header}
 use Rattle.format.specs.Raster.{width, picture_reach, line_reach, mark_reach}

@@ -1,11 +1,10 @@
 -- The lines of a block-line: its pels one after another, the flush of a pending line, and reset lines.
-use Rattle.std.specs.Prelude.{ℕ, zero, suc, ◌+◌, ◌-◌, Bool, true, false, cond, List, [], ◌∷◌, ℤ, pos, slice_index_or}
+use Rattle.std.specs.Prelude.{ℕ, zero, suc, ◌+◌, ◌-◌, Bool, false, List, [], ◌∷◌, ℤ, pos, slice_index_or}
 use Rattle.std.specs.Option.{unwrap_or}
 use Rattle.format.specs.Bits.{level_of}
 use Rattle.format.specs.Modes.{block_of}
 use Rattle.quantizer.specs.Lawful.{within}
 use Rattle.codec.specs.Modes.{pel_is_luminance}
-use Rattle.prediction.specs.Rules.{byte}
 use Rattle.codec.specs.Signal.{Signal, with_reset}
 use Rattle.codec.specs.Step.{Course, step, settled, enter_y}
 use Rattle.prediction.specs.declared.marks.BackgroundControl.{BackgroundControl}

@@ -1,5 +1,5 @@
 -- The serial signal of an end: what its four memories hold, the newest first.
-use Rattle.std.specs.Prelude.{ℕ, Bool, true, false, cond, List, ℤ, pos}
+use Rattle.std.specs.Prelude.{ℕ, false, List, ℤ, pos}
 use Rattle.std.specs.Option.{unwrap_or}
 use Rattle.delay.specs.Delay.{look, entered}
 use Rattle.prediction.specs.Rules.{marked}

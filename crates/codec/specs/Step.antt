@@ -1,5 +1,5 @@
 -- One pel of a block-line: where it looks, what follows, what enters the memories.
-use Rattle.std.specs.Prelude.{ℕ, ◌+◌, ◌-◌, Bool, true, false, cond, List, ℤ, pos, bit_xor}
+use Rattle.std.specs.Prelude.{ℕ, ◌+◌, ◌-◌, Bool, cond, List, ℤ, pos, bit_xor}
 use Rattle.delay.specs.Delay.{entered}
 use Rattle.codec.specs.Modes.{pel_mode, pel_is_luminance, lag}
 use Rattle.prediction.specs.Rules.{intraframe, interpolation, repetition, adaptive, forced, burst, uncoded, skipped, new_background, byte}
@@ -66,7 +66,13 @@ worked_from (FrameBefore y) v = burst y v
 worked_from (Surroundings a) v = adaptive a v
 
 abbrev pub worked_as : PelMode → Geometry → LineModes → BlockModes → ℕ → ℤ → Signal → Worked
-worked_as mode g l b p v s = worked_from (reading_as mode g l b p s) v
+worked_as Clamped g l b p v s = uncoded (pos 0)
+worked_as Repeated g l b p v s =
+    uncoded (repetition (pel_is_luminance g p) l.second (pel_at s.picture (g.near - lag g l.above p)) (pel_at s.picture (g.far - lag g l.above p)))
+worked_as Subsampled g l b p v s = skipped
+worked_as Forced g l b p v s = forced (intraframe_at s) v
+worked_as Burst g l b p v s = burst (pel_at s.picture (g.frame - lag g l.above p)) v
+worked_as Adaptive g l b p v s = adaptive (around g l.above b p s) v
 
 -- a pel of a line, in a block, with the value of its level
 abbrev pub worked : Geometry → LineModes → BlockModes → ℕ → ℤ → Signal → Worked
@@ -113,4 +119,6 @@ enter_pel g k l p x c = enter_worked x (settle_above g k l.above p x.x c)
 
 -- one pel of a line
 abbrev pub step : Geometry → BackgroundControl → LineModes → BlockModes → ℕ → ℤ → Course → Course
-step g k l b p v c = enter_pel g k l p (worked g l b p v c.signal) c
+step g k l b p v c =
+    let x = worked g l b p v c.signal in
+    enter_worked x (settle_above g k l.above p x.x c)

@@ -8,7 +8,7 @@ ghost use Rattle.codec.specs.Signal.{signal};
 use crate::line::{block_at, level_value, work_clamped};
 use crate::memories::Memories;
 use crate::modes::{BlockModes, Geometry, LineModes, PelMode, Reading, Tally};
-use crate::pel::{enter_pel, pel_mode, reading, worked};
+use crate::pel::{enter_pel, pel_mode, reading, worked_from};
 use delay::memory::DelayMemory;
 use format::raster::measures::FIRST_PEL;
 use prediction::marks::{BackgroundControl, Marks};
@@ -147,7 +147,7 @@ where
         prepared(g, pel, z),
     );
     let level = byte(found);
-    let x = worked(read, level_value(set, q, level));
+    let x = worked_from(read, level_value(set, q, level));
     CodedPel {
         level,
         tally: enter_pel(m, g, control, line, pel, x, tally),

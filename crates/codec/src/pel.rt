@@ -3,7 +3,7 @@ ghost use Rattle.std.specs.Prelude.{◌≡◌, ◌+◌, ◌-◌, ◌^◌, ◌<�
 ghost use Rattle.codec.specs.Modes.{pel_mode, pel_is_luminance, lag};
 ghost use Rattle.prediction.specs.Rules.{intraframe, repetition, new_background};
 ghost use Rattle.codec.specs.Signal.{pel_at, marks_at, signal};
-ghost use Rattle.codec.specs.Step.{marks_around, around, reading_as, worked_from, settled, enter_y, settle_above, enter_worked, enter_pel, step, course};
+ghost use Rattle.codec.specs.Step.{marks_around, around, reading_as, worked_from, worked, settled, enter_y, settle_above, enter_worked, enter_pel, step, course};
 
 use crate::memories::{Memories, marks_back, pel_back};
 use crate::modes::{Above, BlockModes, Geometry, LineModes, PelMode, Reading, Tally};
@@ -152,7 +152,7 @@ where
 }
 
 // A pel as it is worked, from what it reads and the value of its level.
-pub(crate) fn worked(reading: Reading, value: i8) -> Worked
+pub(crate) fn worked_from(reading: Reading, value: i8) -> Worked
     ensures { result ≡ worked_from reading value }
 {
     match reading {
@@ -162,6 +162,28 @@ pub(crate) fn worked(reading: Reading, value: i8) -> Worked
         Reading::FrameBefore(y) => burst(y, value),
         Reading::Surroundings(a) => adaptive(a, value),
     }
+}
+
+// A pel of a line, in a block, with the value of its level: where it looks depends on how it is worked.
+pub(crate) fn worked<P, B, L, K>(
+    m: &Memories<P, B, L, K>,
+    g: Geometry,
+    line: LineModes,
+    block: BlockModes,
+    pel: usize,
+    value: i8,
+) -> Worked
+where
+    P: DelayMemory<Element = i8>,
+    B: DelayMemory<Element = i8>,
+    L: DelayMemory<Element = i8>,
+    K: DelayMemory<Element = Marks>,
+    requires narrow { g.width ≤ 1000 }
+    ensures { result ≡ worked g line block pel value (signal P.DelayMemory.held B.DelayMemory.held L.DelayMemory.held K.DelayMemory.held m.now) }
+{
+    let mode = pel_mode(line, block.subsampled, pel);
+    let read = reading(m, mode, g, line, block, pel);
+    worked_from(read, value)
 }
 
 // Y of a pel that lies d back in the line memory, with what stands below it.
@@ -334,7 +356,6 @@ where
     ensures does { course (signal P.DelayMemory.held B.DelayMemory.held L.DelayMemory.held K.DelayMemory.held m.new) result ≡ step g control line block pel value (course (signal P.DelayMemory.held B.DelayMemory.held L.DelayMemory.held K.DelayMemory.held m.old) tally) }
     ensures few { result.held ≤ tally.held + 1 }
 {
-    let mode = pel_mode(line, block.subsampled, pel);
-    let read = reading(m, mode, g, line, block, pel);
-    enter_pel(m, g, control, line, pel, worked(read, value), tally)
+    let x = worked(m, g, line, block, pel, value);
+    enter_pel(m, g, control, line, pel, x, tally)
 }

@@ -5,7 +5,7 @@ use Rattle.format.specs.declared.record.Record.{Record}
 
 -- the bytes that a record stands over
 abbrev pub bytes_of : Record → List ℕ
-bytes_of record' = record'.bytes.now
+bytes_of reader = reader.bytes.now
 
 -- the bytes that a front stands over
 abbrev pub front_bytes : Front → List ℕ

@@ -1,4 +1,4 @@
-use Rattle.std.proofs.Common.{◌≡◌, ℕ, ◌+◌, ◌<◌, cond, length, None, ap, ◌∙◌, arith, length-set}
+use Rattle.std.proofs.Common.{◌+◌, ◌<◌, cond, length, None, ap, ◌∙◌, arith, length-set}
 use Rattle.format.specs.Record.{head_in, word_at}
 use Rattle.format.specs.Reader.{read_bytes}
 use Rattle.codec.specs.Block.{modes_of}

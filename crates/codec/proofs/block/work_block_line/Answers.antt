@@ -1,4 +1,4 @@
-use Rattle.std.proofs.Common.{◌≡◌, ◌+◌, ◌*◌, ◌≤◌, ap, ◌∙◌, arith}
+use Rattle.std.proofs.Common.{◌+◌, ◌*◌, ◌≤◌, ap, ◌∙◌, arith}
 use Rattle.format.specs.Reader.{read_bytes}
 use Rattle.codec.specs.Block.{geometry_of, record_value}
 use Rattle.codec.proofs.BlockLines.{lines_more, lines_all}

@@ -1,6 +1,6 @@
 use Rattle.std.proofs.Common.{◌≡◌, ◌+◌, ◌-◌, ◌*◌, ◌≤◌}
 use Rattle.format.specs.Reader.{read_bytes}
-use Rattle.codec.specs.Block.{geometry_of, blocks_of, lines_from, record_value}
+use Rattle.codec.specs.Block.{lines_from, record_value}
 use Rattle.codec.specs.Signal.{signal}
 use Rattle.codec.specs.Step.{course}
 use Rattle.codec.proofs.block.work_block_line.Given as goal

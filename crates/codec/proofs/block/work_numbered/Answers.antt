@@ -1,5 +1,4 @@
-use Rattle.std.proofs.Common.{◌≡◌, ℕ, ◌≤◌, List, length, sym, ap, ◌∙◌, subst, arith}
-use Rattle.format.specs.Record.{head_in, line_in}
+use Rattle.std.proofs.Common.{ℕ, ◌≤◌, List, length, sym, ap, ◌∙◌, subst, arith}
 use Rattle.format.specs.Reader.{read_bytes}
 use Rattle.format.specs.declared.words.Head.{Head}
 use Rattle.quantizer.specs.Choice.{chosen}

@@ -1,4 +1,4 @@
-use Rattle.std.proofs.Common.{◌≡◌, ◌+◌, ◌≤◌, length, get_or, ℤ, pos, sym, refl, ap, ◌∙◌, arith, length-set, w8, SFits, to_z, of_z, rules}
+use Rattle.std.proofs.Common.{◌+◌, ◌≤◌, get_or, pos, refl, ap, ◌∙◌, arith, length-set, w8, SFits, rules}
 use Rattle.std.proofs.lemmas.Int.{to_z-of_z}
 use Rattle.codec.specs.Coding.{level_at}
 use Rattle.codec.specs.Line.{level_value}

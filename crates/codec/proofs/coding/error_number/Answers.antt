@@ -1,4 +1,4 @@
-use Rattle.std.proofs.Common.{◌≡◌, pos, unwrap_or, ap, ◌∙◌, w8, SFits, rules}
+use Rattle.std.proofs.Common.{pos, unwrap_or, ap, ◌∙◌, w8, SFits, rules}
 use Rattle.std.proofs.lemmas.Int.{to_z-of_z}
 use Rattle.codec.proofs.Errors.{error_number}
 use Rattle.codec.proofs.coding.error_number.Goals as goal

@@ -1,4 +1,4 @@
-use Rattle.std.proofs.Common.{◌≡◌, ℕ, ◌+◌, ◌<◌, ◌≤◌, get_or, ℤ, pos, ◌∙◌, arith, w8, SFits, to_z, of_z, rules}
+use Rattle.std.proofs.Common.{ℕ, ◌+◌, ◌<◌, ◌≤◌, get_or, ℤ, pos, ◌∙◌, arith, w8, SFits, to_z, of_z, rules}
 use Rattle.std.proofs.lemmas.Int.{to_z-of_z}
 use Rattle.codec.specs.Line.{level_value}
 use Rattle.codec.proofs.Lines.{pels_more, pels_all, pels_same}

@@ -1,4 +1,4 @@
-use Rattle.std.proofs.Common.{◌≡◌, ℕ, leb, sym, ap, ◌∙◌, arith}
+use Rattle.std.proofs.Common.{ℕ, leb, sym, ap, ◌∙◌, arith}
 use Rattle.codec.specs.Coder.{coded_frame_of}
 use Rattle.codec.specs.Coding.{Coded, coded}
 use Rattle.codec.specs.Signal.{signal}
