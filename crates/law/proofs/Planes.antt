@@ -35,8 +35,8 @@ one_bit (suc zero) (suc (suc y)) hx hy = absurd (omega arith)
 one_bit (suc (suc x)) y hx hy = absurd (omega arith)
 
 -- a bit of an exclusive or is set where the two bits are unlike
-pub bit_xor : (k a b : ℕ) → bit_at k (bit_xor a b) ≡ unlike (bit_at k a) (bit_at k b)
-bit_xor k a b =
+pub bit_at-bit_xor : (k a b : ℕ) → bit_at k (bit_xor a b) ≡ unlike (bit_at k a) (bit_at k b)
+bit_at-bit_xor k a b =
     ap (λ n. eqb (n % 2) 1) (xor_shr a b k)
     ∙ ap (λ n. eqb n 1) (xor_mod (a / 2 ^ k) (b / 2 ^ k) 1)
     ∙ one_bit (a / 2 ^ k % 2) (b / 2 ^ k % 2) (mod_below (a / 2 ^ k) 2 (lit< tt)) (mod_below (b / 2 ^ k) 2 (lit< tt))
@@ -81,7 +81,7 @@ odd_unlike k (y ∷ ys) [] e = absurd (omega arith)
 odd_unlike k (y ∷ ys) (z ∷ zs) e =
     let a = bit_at k (byte y) in
     let b = bit_at k (byte z) in
-    ap₂ unlike (bit_xor k (byte y) (planes_of ys)) (bit_xor k (byte z) (planes_of zs))
+    ap₂ unlike (bit_at-bit_xor k (byte y) (planes_of ys)) (bit_at-bit_xor k (byte z) (planes_of zs))
     ∙ unlike_pairs a (bit_at k (planes_of ys)) b (bit_at k (planes_of zs))
     ∙ ap (unlike (unlike a b)) (odd_unlike k ys zs (omega arith))
     ∙ sym (odd_more (unlike a b) (differing k ys zs))
@@ -90,8 +90,8 @@ odd_unlike k (y ∷ ys) (z ∷ zs) e =
 pub names_odd : (ys zs : List ℤ) → length ys ≡ length zs → Names (bit_xor (bit_xor 255 (planes_of ys)) (bit_xor 255 (planes_of zs))) ys zs
 names_odd ys zs e k h =
     let o = bit_at k 255 in
-    bit_xor k (bit_xor 255 (planes_of ys)) (bit_xor 255 (planes_of zs))
-    ∙ ap₂ unlike (bit_xor k 255 (planes_of ys)) (bit_xor k 255 (planes_of zs))
+    bit_at-bit_xor k (bit_xor 255 (planes_of ys)) (bit_xor 255 (planes_of zs))
+    ∙ ap₂ unlike (bit_at-bit_xor k 255 (planes_of ys)) (bit_at-bit_xor k 255 (planes_of zs))
     ∙ unlike_turned o (bit_at k (planes_of ys)) (bit_at k (planes_of zs))
     ∙ odd_unlike k ys zs e
 
@@ -99,7 +99,7 @@ names_odd ys zs e k h =
 odd_ones : (k : ℕ) (ys : List ℤ) → bit_at k (planes_of ys) ≡ eqb (ones_in k ys % 2) 1
 odd_ones k [] = bit_zero k
 odd_ones k (y ∷ ys) =
-    bit_xor k (byte y) (planes_of ys) ∙ ap (unlike (bit_at k (byte y))) (odd_ones k ys) ∙ sym (odd_more (bit_at k (byte y)) (ones_in k ys))
+    bit_at-bit_xor k (byte y) (planes_of ys) ∙ ap (unlike (bit_at k (byte y))) (odd_ones k ys) ∙ sym (odd_more (bit_at k (byte y)) (ones_in k ys))
 
 -- all planes of 255 are set
 all_planes : (k : ℕ) → k < 8 → bit_at k 255 ≡ true
@@ -122,4 +122,4 @@ not_odd (suc (suc x)) h = absurd (omega arith)
 -- the complement of the planes is the parity
 pub parity_even : (ys : List ℤ) → IsParity (bit_xor 255 (planes_of ys)) ys
 parity_even ys k h =
-    bit_xor k 255 (planes_of ys) ∙ ap₂ unlike (all_planes k h) (odd_ones k ys) ∙ not_odd (ones_in k ys % 2) (mod_below (ones_in k ys) 2 (lit< tt))
+    bit_at-bit_xor k 255 (planes_of ys) ∙ ap₂ unlike (all_planes k h) (odd_ones k ys) ∙ not_odd (ones_in k ys % 2) (mod_below (ones_in k ys) 2 (lit< tt))
