@@ -1,4 +1,6 @@
 // The source coder and decoder: the rules of one pel, the line, the block-line, and the ends that code and decode frames.
+#![tactic(auto)]
+
 mod block;
 pub mod coder;
 mod coding;

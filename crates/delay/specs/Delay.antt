@@ -1,5 +1,5 @@
 -- What a delay memory answers and what it holds next, over the list of its elements, the newest first.
-use Rattle.std.specs.Prelude.{ℕ, zero, suc, List, [], ◌∷◌, length, take, Some, None, Option}
+use Rattle.std.specs.Prelude.{ℕ, zero, suc, List, ◌∷◌, length, take, None, Option}
 use Rattle.std.specs.List.{slice_get}
 
 module _ {X : Type 0} where

@@ -1,4 +1,6 @@
 // Delay memories: what a memory means, and two makes that mean it.
+#![tactic(auto)]
+
 pub mod banks;
 pub mod lent;
 pub mod memory;

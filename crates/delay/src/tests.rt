@@ -12,7 +12,7 @@ const PROBES: usize = 11;
 
 // Enters a pel and looks n back: code that does not know the make.
 fn enter_and_look<M: DelayMemory<Element = i8>>(memory: &mut M, x: i8, n: usize) -> Option<i8>
-    ensures { result ≡ look (entered x (held memory.old)) n }
+    ensures { result ≡ look (entered x (M.held memory.old)) n }
 {
     memory.enter(x);
     memory.back(n)

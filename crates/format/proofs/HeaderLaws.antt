@@ -2,7 +2,7 @@
 use Rattle.std.proofs.Common.{◌≡◌, ℕ, ◌<◌, Bool, true, false, cond, not, ◌&&◌, eqb, List, [], ◌∷◌, length, get_or, Ok, Err, Result, sym, refl, ap, ◌∙◌, arith, lit<}
 use Rattle.std.proofs.lemmas.Bool.{true≢false, eqb-true}
 use Rattle.format.specs.Bits.{bit_at}
-use Rattle.format.specs.Header.{fm1_fixed, fm2_fixed, header_of, five_bytes, read_header}
+use Rattle.format.specs.Header.{fm1_fixed, fm2_fixed, header_of, five_bytes}
 use Rattle.format.specs.HeaderWriting.{fm1_byte, fm2_byte, header_bytes, HeadersReadBack, HeaderBytesWrittenBack}
 use Rattle.format.specs.Packing.{byte_of}
 use Rattle.format.specs.declared.header.Header.{Header}

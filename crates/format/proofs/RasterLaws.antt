@@ -1,5 +1,5 @@
 -- Bounds of a raster's measures, which follow from its limits.
-use Rattle.std.proofs.Common.{◌≡◌, ℕ, ◌+◌, ◌*◌, ◌≤◌, refl, arith}
+use Rattle.std.proofs.Common.{◌≡◌, ◌+◌, ◌*◌, ◌≤◌, refl, arith}
 use Rattle.std.proofs.lemmas.Nat.{mul-le}
 use Rattle.format.specs.Raster.{blocks, width, lines, frame, picture_reach, line_reach, mark_reach, word_bytes, line_levels, record_length}
 use Rattle.format.specs.declared.raster.Raster.{Raster}

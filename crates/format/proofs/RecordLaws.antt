@@ -1,22 +1,21 @@
 -- The words, the head and the levels in the bytes of a record.
-use Rattle.std.proofs.Common.{◌≡◌, ℕ, ◌+◌, ◌-◌, ◌*◌, ◌/◌, ◌%◌, ◌^◌, ◌<◌, ◌≤◌, Bool, true, false, eqb, leb, ◌⊎◌, List, [], ◌∷◌, ◌++◌, map, length, get_or, take, drop, ℤ, pos, nat_abs, sym, refl, ap, ◌∙◌, ⊎_elim, arith, lit<}
-use Rattle.std.specs.List.{range_with_len, between}
-use Rattle.std.proofs.lemmas.Nat.{pow_pos, mul-le}
-use Rattle.std.proofs.lemmas.List.FromFn.{length-map-range_with_len, get_or-map-range_with_len}
+use Rattle.std.proofs.Common.{◌≡◌, ℕ, ◌+◌, ◌-◌, ◌*◌, ◌/◌, ◌%◌, ◌<◌, ◌≤◌, Bool, true, false, eqb, leb, List, [], ◌∷◌, map, length, get_or, ℤ, nat_abs, ap, ◌∙◌, arith, lit<}
+use Rattle.std.specs.List.{range_with_len}
+use Rattle.std.proofs.lemmas.List.FromFn.{get_or-map-range_with_len}
 use Rattle.std.proofs.lemmas.List.Edits.{get_or-between}
 use Rattle.std.proofs.lemmas.List.{get_or_past}
-use Rattle.std.proofs.lemmas.Bool.{and_parts, leb-true, eqb-true, eq-eqb, cases_lt}
+use Rattle.std.proofs.lemmas.Bool.{and_parts, leb-true, eqb-true, eq-eqb}
 use Rattle.format.specs.Bits.{bit_at, stream_bit, digit, packed, field_of, twos_complement, level_of}
 use Rattle.format.specs.Packing.{byte_of, twos_field}
-use Rattle.format.specs.Raster.{blocks, width, word_bytes, line_levels, record_length}
+use Rattle.format.specs.Raster.{width, word_bytes, line_levels}
 use Rattle.format.specs.Record.{head_of, word_of, line_start, line_in, level_in}
-use Rattle.format.specs.RecordWriting.{head_byte, word_number, no_word, words_bit, words_byte, in_range, Ranged}
+use Rattle.format.specs.RecordWriting.{head_byte, word_number, no_word, words_bit, words_byte, in_range}
 use Rattle.format.specs.declared.raster.Raster.{Raster}
 use Rattle.format.specs.declared.words.BlockWord.{BlockWord}
 use Rattle.format.specs.declared.words.Head.{Head}
 use Rattle.format.proofs.Fields.{field_packed, field_below}
-use Rattle.format.proofs.Packed.{digit_most, bit_packed, packed_bits, packed_split, packed_none, packed_more, bit_zero, bit_byte, byte_bits, bit_of_byte, digit_same}
-use Rattle.format.proofs.RasterLaws.{width_is, width_least}
+use Rattle.format.proofs.Packed.{digit_most, bit_packed, packed_split, packed_none, packed_more, bit_zero, bit_byte, byte_bits, digit_same}
+use Rattle.format.proofs.RasterLaws.{width_least}
 use Rattle.format.proofs.Twos.{twos_back, twos_again, in_field_lem, field_most}
 
 -- the ten bits of a word by its three parts

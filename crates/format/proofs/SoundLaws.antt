@@ -1,5 +1,5 @@
 -- A usable record is sound: each of its places passes its tests.
-use Rattle.std.proofs.Common.{◌≡◌, ℕ, ◌+◌, ◌-◌, ◌*◌, ◌<◌, ◌≤◌, Bool, true, false, not, ◌&&◌, ◌||◌, eqb, ltb, leb, List, pos, negsuc, nat_abs, Ok, Err, sym, refl, ap, ◌∙◌, arith}
+use Rattle.std.proofs.Common.{◌≡◌, ℕ, ◌+◌, ◌-◌, ◌*◌, ◌≤◌, Bool, true, false, not, ◌&&◌, leb, List, pos, negsuc, nat_abs, Ok, sym, refl, ◌∙◌, arith}
 use Rattle.std.specs.Result.{result_and}
 use Rattle.std.proofs.lemmas.Bool.{and_parts, or_parts, not-false, leb-true, ltb-false, eqb-true, true≢false}
 use Rattle.format.specs.Bits.{field_of}
@@ -7,7 +7,7 @@ use Rattle.format.specs.Modes.{repeated}
 use Rattle.format.specs.Raster.{blocks, width, line_levels}
 use Rattle.format.specs.Record.{head_in, head_marked, words_in, word_of, word_in, has_word, level_in, has_line}
 use Rattle.format.specs.Sound.{Sound, has_level}
-use Rattle.format.specs.Usable.{Verdict, refuse_if, equals, mark_test, forced_repeat, forced_test, zero_word, stray_word, word_test, words_test, fill_in, fill_test, bad_vector, vector_test, vectors_test, omitted, bad_level, level_test, line_test, levels_test, usable}
+use Rattle.format.specs.Usable.{refuse_if, mark_test, forced_test, stray_word, word_test, words_test, fill_test, bad_vector, vector_test, vectors_test, omitted, bad_level, level_test, line_test, levels_test, usable}
 use Rattle.format.specs.declared.raster.Raster.{Raster}
 use Rattle.format.specs.declared.refusal.Refusal.{Refusal}
 use Rattle.format.specs.declared.refusal.Refusal.TheVariants.{FixedHeadBits, ForcedRepeat, StrayWord, VectorRange, LevelValue}

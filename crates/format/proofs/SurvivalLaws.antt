@@ -1,14 +1,14 @@
 -- Reading and writing a record undo each other.
-use Rattle.std.proofs.Common.{◌≡◌, ℕ, ◌+◌, ◌-◌, ◌*◌, ◌/◌, ◌%◌, ◌^◌, ◌<◌, ◌≤◌, Bool, true, false, eqb, leb, ◌⊎◌, List, [], ◌∷◌, ◌++◌, map, length, get_or, take, drop, ℤ, pos, sym, refl, ap, ◌∙◌, ⊎_elim, arith}
-use Rattle.std.specs.List.{range_with_len, between}
-use Rattle.std.proofs.lemmas.Nat.{pow_pos, mul-le, mul-add-lt, div-add-mod', mod_below, div_below}
+use Rattle.std.proofs.Common.{◌≡◌, ℕ, ◌+◌, ◌-◌, ◌*◌, ◌/◌, ◌%◌, ◌<◌, ◌≤◌, true, leb, List, ◌∷◌, ◌++◌, map, length, get_or, drop, ℤ, pos, sym, refl, ap, ◌∙◌, ⊎_elim, arith}
+use Rattle.std.specs.List.{range_with_len}
+use Rattle.std.proofs.lemmas.Nat.{pow_pos, mul-add-lt, div-add-mod', mod_below}
 use Rattle.std.proofs.lemmas.List.FromFn.{length-map-range_with_len, get_or-map-range_with_len, fill_by_all}
 use Rattle.std.proofs.lemmas.List.{length-append, length-map, length-drop, length-take-le, take_at, take-append-drop, get_or-append_right, get_or-map, get_or-drop, get_or-take, drop_more, ext_get_or}
 use Rattle.std.proofs.lemmas.Bool.{and_parts, leb-true, eqb-true, eq-eqb, cases_lt}
 use Rattle.format.specs.Bits.{bit_at, stream_bit, field_of, level_of}
 use Rattle.format.specs.Packing.{Bytes, twos_field}
 use Rattle.format.specs.Raster.{blocks, width, word_bytes, line_levels, record_length}
-use Rattle.format.specs.Record.{is_whole, head_of, head_in, head_marked, words_in, word_of, word_in, has_word, has_line, level_in}
+use Rattle.format.specs.Record.{is_whole, head_in, head_marked, words_in, word_of, word_in, has_word, has_line, level_in}
 use Rattle.format.specs.RecordWriting.{head_byte, word_number, no_word, words_bit, words_byte, record_bytes, Ranged}
 use Rattle.format.specs.Sound.{has_level}
 use Rattle.format.specs.Survival.{LevelBytes, Holds, RecordsReadBack, words_read, level_read, levels_read, RecordBytesWrittenBack}
@@ -18,7 +18,7 @@ use Rattle.format.specs.declared.words.BlockWord.{BlockWord}
 use Rattle.format.specs.declared.words.Head.{Head}
 use Rattle.format.proofs.Packed.{bit_packed, packed_bits, packed_zero, bit_zero, bit_of_byte}
 use Rattle.format.proofs.Fields.{field_packed}
-use Rattle.format.proofs.RasterLaws.{record_length_is, width_is, width_least}
+use Rattle.format.proofs.RasterLaws.{record_length_is, width_least}
 use Rattle.format.proofs.RecordLaws.{word_again, number_most, word_back, words_bit_past, words_bit_at, bytes_bit, level_place, head_back, head_marked_lem, head_again}
 use Rattle.format.proofs.Twos.{twos_back, twos_again}
 

@@ -1,10 +1,10 @@
 -- A field of a stream lies in two bytes: it is read from them by one shift.
-use Rattle.std.proofs.Common.{◌≡◌, ℕ, zero, suc, ◌+◌, ◌-◌, ◌*◌, ◌/◌, ◌%◌, ◌^◌, ◌<◌, ◌≤◌, Bool, true, false, eqb, ◌⊎◌, List, get_or, sym, refl, ap, ◌∙◌, ⊎_elim, arith, shr-shr}
+use Rattle.std.proofs.Common.{◌≡◌, ℕ, zero, suc, ◌+◌, ◌-◌, ◌*◌, ◌/◌, ◌%◌, ◌^◌, ◌<◌, ◌≤◌, List, get_or, sym, ap, ◌∙◌, ⊎_elim, arith, shr-shr}
 use native.Mathlib.Nat.{mod-one}
 use lib.Pow.{high, low, mod-pow-add, field, mod-mod-pow}
 use Rattle.std.proofs.lemmas.Bool.{cases_lt}
 use Rattle.std.proofs.lemmas.Nat.{mod_below}
-use Rattle.format.specs.Bits.{bit_at, stream_bit, digit, packed, field_of}
+use Rattle.format.specs.Bits.{stream_bit, digit, packed, field_of}
 use Rattle.format.proofs.Packed.{digit_of}
 
 -- bit m of two bytes, from the most significant on, is one of the first byte or one of the second

@@ -1,8 +1,6 @@
 -- The number and the place of each refusal, by its cases.
 use Rattle.std.specs.Prelude.{ℕ}
-use Rattle.format.specs.declared.refusal.MemoryName.{MemoryName}
 use Rattle.format.specs.declared.refusal.MemoryName.TheVariants.{Picture, Background, Line, Marks}
-use Rattle.format.specs.declared.refusal.HeaderByte.{HeaderByte}
 use Rattle.format.specs.declared.refusal.HeaderByte.TheVariants.{Fm1, Fm2}
 use Rattle.format.specs.declared.refusal.Refusal.{Refusal}
 use Rattle.format.specs.declared.refusal.Refusal.TheVariants.{RasterLimits, MemoryReach, BlockLineCount, WrongLength, FixedHeaderBit, FixedHeadBits, ForcedRepeat, StrayWord, VectorRange, LevelValue}

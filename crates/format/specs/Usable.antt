@@ -1,5 +1,5 @@
 -- When a record is usable: its faults, and the order in which they are looked for.
-use Rattle.std.specs.Prelude.{◌≡◌, ℕ, zero, suc, ◌+◌, ◌-◌, ◌*◌, ◌<◌, ◌≤◌, Bool, true, false, cond, not, ◌&&◌, ◌||◌, List, length, ℤ, pos, negsuc, Ok, Err, Result, ◌==◌, nat_lt, slice_index, unsigned_abs}
+use Rattle.std.specs.Prelude.{◌≡◌, ℕ, zero, suc, ◌+◌, ◌-◌, ◌*◌, ◌<◌, ◌≤◌, Bool, false, cond, not, ◌&&◌, ◌||◌, List, length, ℤ, pos, negsuc, Ok, Err, Result, ◌==◌, nat_lt, slice_index, unsigned_abs}
 use Rattle.std.specs.Result.{result_and}
 use Rattle.format.specs.Bits.{field_of, level_of}
 use Rattle.format.specs.Modes.{block_of, repeated, subsampled, omits_pel}

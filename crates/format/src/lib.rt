@@ -1,5 +1,7 @@
 // The form of what the decoder is given: the raster, the frame header, the record of a block-line, and
 // the refusals of what does not keep to that form.
+#![tactic(auto)]
+
 pub mod bits;
 mod front;
 pub mod header;

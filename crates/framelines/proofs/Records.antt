@@ -1,8 +1,7 @@
 -- Records taken one after another.
-use Rattle.std.proofs.Common.{◌≡◌, ℕ, suc, ◌+◌, ◌-◌, ◌*◌, ◌<◌, ◌≤◌, List, ℤ, Ok, Err, Result, sym, ap, ◌∙◌, arith}
-use Rattle.format.specs.declared.refusal.Refusal.{Refusal}
+use Rattle.std.proofs.Common.{◌≡◌, ℕ, suc, ◌+◌, ◌-◌, ◌*◌, ◌<◌, ◌≤◌, List, ℤ, Ok, Result, sym, ap, ◌∙◌, arith}
 use Rattle.quantizer.specs.declared.characteristic.Characteristic.{Characteristic}
-use Rattle.codec.specs.Decoder.{Frame, block_line, refused}
+use Rattle.codec.specs.Decoder.{Frame, block_line}
 use Rattle.codec.specs.Signal.{Signal}
 use Rattle.codec.specs.declared.decoder.Refused.{Refused}
 use Rattle.framelines.specs.Frames.{piece, records, goes_on}

@@ -10,7 +10,6 @@ use Rattle.codec.specs.declared.decoder.Finished.{Finished}
 use Rattle.codec.specs.declared.decoder.Idle.{Idle}
 use Rattle.codec.specs.declared.decoder.Open.{Open}
 use Rattle.codec.specs.declared.decoder.Refused.{Refused}
-use Rattle.framelines.specs.declared.entry.Entry.{Entry}
 use Rattle.framelines.specs.declared.entry.Entry.TheVariants as entry
 use Rattle.framelines.specs.declared.entry.Logged.{Logged}
 use Rattle.framelines.specs.declared.frames.Decoded.{Decoded}

@@ -1,18 +1,17 @@
 -- What stays true of a coder's memories over a whole run, and that what it wrote is usable.
-use Rattle.std.proofs.Common.{◌≡◌, ℕ, zero, suc, ◌*◌, ◌<◌, Bool, List, [], ◌∷◌, length, get_or, ℤ, Ok, sym, refl, ap, ◌∙◌, subst, arith}
+use Rattle.std.proofs.Common.{◌≡◌, ℕ, ◌*◌, Bool, List, [], ◌∷◌, ℤ, Ok, sym, refl, ap, ◌∙◌, subst, arith}
 use Rattle.format.specs.Raster.{width}
 use Rattle.format.specs.Reader.{verdict}
 use Rattle.format.specs.declared.raster.Raster.{Raster}
 use Rattle.quantizer.specs.declared.characteristic.Characteristic.{Characteristic}
-use Rattle.codec.specs.Decoder.{Frame, begun, flushed, next_course, top_in}
+use Rattle.codec.specs.Decoder.{Frame, flushed, next_course, top_in}
 use Rattle.codec.specs.Line.{resets}
 use Rattle.codec.specs.Signal.{Signal}
 use Rattle.codec.specs.Step.{course}
-use Rattle.codec.specs.declared.decoder.Idle.{Idle}
-use Rattle.law.specs.Runs.{Sent, with_record, Written, Standing, Resting, Working, CoderRun}
-use Rattle.law.proofs.Calls.{CodesLine, codes_line, opens_coding, opening_coded_leaves, coded_line_leaves, coded_finish, coded_finish_leaves, ended_hand}
-use Rattle.law.proofs.Histories.{sent_by, Works, EachUsable, each_more, works_header, works_raster, works_ended, codes}
-use Rattle.law.proofs.Through.{Hand, in_hand, header_in, onward_by, ended, through, Usable}
+use Rattle.law.specs.Runs.{Sent, Written, Standing, Resting, Working, CoderRun}
+use Rattle.law.proofs.Calls.{CodesLine, codes_line, opens_coding, opening_coded_leaves, coded_line_leaves, coded_finish, coded_finish_leaves}
+use Rattle.law.proofs.Histories.{sent_by, EachUsable, each_more, works_header, works_raster, works_ended, codes}
+use Rattle.law.proofs.Through.{header_in, onward_by, ended, through}
 
 module _ (tops : Characteristic → ℕ) (values numbers : Characteristic → ℤ → ℤ) (r : Raster) (start : Signal)
     -- what the memories keep, from reset lines, coded block-lines and the flush of a last line

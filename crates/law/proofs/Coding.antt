@@ -1,5 +1,5 @@
 -- A coder that finishes a frame.
-use Rattle.std.proofs.Common.{◌≡◌, ℕ, zero, suc, ◌*◌, ◌<◌, ◌≤◌, false, List, [], ◌∷◌, length, replicate, ℤ, pos, Ok, sym, refl, ap, ◌∙◌, subst, arith}
+use Rattle.std.proofs.Common.{◌≡◌, ℕ, zero, suc, ◌<◌, ◌≤◌, false, List, [], length, replicate, ℤ, pos, Ok, sym, refl, ap, ◌∙◌, subst, arith}
 use lib.ListN.{length-replicate}
 use Rattle.std.proofs.lemmas.Bool.{le-ltb, lt-leb}
 use Rattle.std.specs.Result.{result_and}
@@ -14,7 +14,7 @@ use Rattle.codec.specs.Coder.{picture_length, header_written, header_length, ope
 use Rattle.codec.specs.Decoder.{Frame, new_end, reach_test, block_lines, finish_test, finish_on}
 use Rattle.codec.specs.Signal.{Signal}
 use Rattle.codec.specs.declared.decoder.Idle.{Idle}
-use Rattle.law.specs.Runs.{Sent, begun_with, Written, Resting, Working, CoderRun}
+use Rattle.law.specs.Runs.{Sent, Written, Resting, Working, CoderRun}
 use Rattle.law.proofs.Histories.{works_raster, works_done, codes}
 use Rattle.law.proofs.Quiet.{quiet_front, quiet_long, quiet_usable}
 use Rattle.law.proofs.Taking.{both_passed, no_refusal_if, works_reach}

@@ -1,5 +1,5 @@
 -- What a run has come to, as a function of the frames that it finished: refused calls count for nothing.
-use Rattle.std.proofs.Common.{◌≡◌, ℕ, zero, suc, ◌+◌, ◌*◌, ◌<◌, ◌≤◌, Bool, true, false, ltb, leb, List, [], ◌∷◌, map, length, get_or, ℤ, Ok, sym, refl, ap, ◌∙◌, subst, zero-add, arith}
+use Rattle.std.proofs.Common.{◌≡◌, ℕ, zero, suc, ◌+◌, ◌*◌, ◌<◌, ◌≤◌, ltb, leb, List, [], ◌∷◌, map, length, get_or, ℤ, Ok, sym, refl, ap, ◌∙◌, subst, zero-add, arith}
 use lib.Bits.{bit_xor}
 use Rattle.std.proofs.lemmas.Bool.{ltb-false, leb-false}
 use Rattle.std.specs.Result.{result_and}
@@ -7,15 +7,14 @@ use Rattle.format.proofs.SoundLaws.{no_fault}
 use Rattle.format.specs.Header.{read_header}
 use Rattle.format.specs.Raster.{width, picture_reach, line_reach, mark_reach}
 use Rattle.format.specs.Reader.{verdict}
-use Rattle.format.specs.Usable.{Verdict, refuse_if}
+use Rattle.format.specs.Usable.{refuse_if}
 use Rattle.format.specs.declared.raster.Raster.{Raster}
 use Rattle.format.specs.declared.refusal.MemoryName.TheVariants.{Picture, Background, Line, Marks}
 use Rattle.format.specs.declared.refusal.Refusal.TheVariants.{BlockLineCount, MemoryReach}
 use Rattle.quantizer.specs.declared.characteristic.Characteristic.{Characteristic}
-use Rattle.codec.specs.Decoder.{Frame, begun, reach_test, block_lines, flushed, parity_of, top_in}
+use Rattle.codec.specs.Decoder.{Frame, begun, reach_test, block_lines, parity_of, top_in}
 use Rattle.codec.specs.Line.{resets}
 use Rattle.codec.specs.Signal.{Signal}
-use Rattle.codec.specs.Step.{course}
 use Rattle.codec.specs.declared.decoder.Idle.{Idle}
 use Rattle.law.specs.Runs.{Sent, begun_with, with_record, counted_pels, Written, Taken, Standing, Resting, Working, CoderRun, DecoderRun}
 use Rattle.law.proofs.Calls.{passed, opens, opening_leaves, opens_coding, opening_coded_leaves, takes_line, block_line_leaves, codes_line, coded_line_leaves, ended_hand, finishes, finish_leaves, coded_finish, coded_finish_leaves}

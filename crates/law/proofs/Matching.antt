@@ -1,5 +1,5 @@
 -- A coder and a decoder that matches it: what both hold, and what the decoder's openings name.
-use Rattle.std.proofs.Common.{◌≡◌, ℕ, zero, suc, ◌+◌, ◌*◌, ◌<◌, ◌≤◌, List, [], ◌∷◌, ◌++◌, map, length, get_or, ℤ, sym, refl, ap, ◌∙◌, subst, subst₂, inl, inr, arith}
+use Rattle.std.proofs.Common.{◌≡◌, ℕ, zero, suc, ◌+◌, ◌<◌, ◌≤◌, List, [], ◌∷◌, ◌++◌, length, ℤ, sym, refl, ap, ◌∙◌, subst, subst₂, inl, inr, arith}
 use lib.Bits.{bit_xor, xor_self}
 use Rattle.format.proofs.RasterLaws.{picture_reach_is}
 use Rattle.format.specs.Raster.{frame, picture_reach}
@@ -12,7 +12,7 @@ use Rattle.law.specs.Runs.{Sent, counted_pels, Written, Taken}
 use Rattle.law.proofs.Entering.{parities_name}
 use Rattle.law.proofs.Healing.{agree_ended, heal_ended, heal_next}
 use Rattle.law.proofs.Held.{agree_held}
-use Rattle.law.proofs.Histories.{sent_by, sent_to, WroteFrame, WroteAll, TookFrame, TookAll}
+use Rattle.law.proofs.Histories.{sent_by, sent_to, WroteAll, TookAll}
 use Rattle.law.proofs.Lengths.{reach_ended, reach_through, reach_start}
 use Rattle.law.proofs.Through.{Reach, Agree, header_in, ended, through, parity_after, Usable}
 

@@ -1,5 +1,5 @@
 -- A front of which all words are 0: a head of Q0 that neither forces nor repeats is usable with it.
-use Rattle.std.proofs.Common.{◌≡◌, ℕ, zero, suc, ◌+◌, ◌-◌, ◌*◌, ◌/◌, ◌%◌, ◌<◌, ◌≤◌, Bool, false, not, eqb, List, ◌∷◌, length, get_or, take, replicate, Ok, sym, refl, ap, ◌∙◌, arith}
+use Rattle.std.proofs.Common.{◌≡◌, ℕ, zero, suc, ◌+◌, ◌-◌, ◌*◌, ◌/◌, ◌%◌, Bool, false, not, eqb, List, ◌∷◌, length, get_or, take, replicate, Ok, refl, ap, ◌∙◌, arith}
 use lib.ListN.{length-replicate}
 use Rattle.std.proofs.lemmas.List.{take_all}
 use Rattle.format.proofs.InOrder.{both_from, in_order_from}

@@ -5,7 +5,6 @@ use Rattle.std.proofs.lemmas.List.Edits.{length-between, get_or-between}
 use Rattle.std.proofs.lemmas.List.{length-drop, get_or-drop}
 use Rattle.std.proofs.lemmas.Bool.{and_parts, leb-true}
 use Rattle.format.specs.Front.{front_length, front_written}
-use Rattle.format.specs.Modes.{subsampled}
 use Rattle.format.specs.Raster.{width}
 use Rattle.format.specs.Record.{head_in, has_line, line_in, level_in}
 use Rattle.format.specs.Sound.{has_level}

@@ -6,7 +6,7 @@ use Rattle.format.specs.Raster.{width}
 use Rattle.format.specs.Record.{head_in}
 use Rattle.format.specs.declared.header.Header.{Header}
 use Rattle.format.specs.declared.raster.Raster.{Raster}
-use Rattle.prediction.specs.Rules.{intraframe, prediction, x1, s1, s2, interpolation, new_background, byte}
+use Rattle.prediction.specs.Rules.{prediction, x1, s1, s2, interpolation, new_background, byte}
 use Rattle.prediction.specs.declared.marks.Around.{Around}
 use Rattle.prediction.specs.declared.marks.Marks.{Marks}
 use Rattle.prediction.specs.declared.marks.BackgroundControl.{BackgroundControl}

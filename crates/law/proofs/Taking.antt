@@ -1,28 +1,22 @@
 -- A decoder that takes given frames, and a coder that finishes one: runs that are there.
-use Rattle.std.proofs.Common.{◌≡◌, ℕ, zero, suc, ◌+◌, ◌*◌, ◌<◌, ◌≤◌, Bool, true, false, cond, not, eqb, ltb, leb, List, [], ◌∷◌, ◌++◌, length, get_or, replicate, ℤ, pos, Ok, Result, sym, refl, ap, ◌∙◌, subst, arith}
-use lib.Bits.{bit_xor}
-use lib.ListN.{length-replicate}
-use Rattle.std.proofs.lemmas.Bool.{le-ltb, lt-leb, eq-eqb}
+use Rattle.std.proofs.Common.{◌≡◌, ℕ, suc, ◌<◌, ◌≤◌, Bool, false, List, [], ◌∷◌, length, get_or, ℤ, Ok, Result, sym, refl, ap, ◌∙◌, subst, arith}
+use Rattle.std.proofs.lemmas.Bool.{le-ltb, lt-leb}
 use Rattle.std.specs.Result.{result_and}
-use Rattle.format.specs.Front.{front_length}
 use Rattle.format.specs.Header.{read_header}
-use Rattle.format.specs.Raster.{width, picture_reach, line_reach, mark_reach, record_length}
 use Rattle.format.specs.Reader.{verdict}
-use Rattle.format.specs.RecordWriting.{count_test}
-use Rattle.format.specs.Usable.{Verdict, refuse_if, front_usable}
+use Rattle.format.specs.Usable.{refuse_if}
 use Rattle.format.specs.declared.raster.Raster.{Raster}
 use Rattle.format.specs.declared.refusal.MemoryName.TheVariants.{Picture, Background, Line, Marks}
 use Rattle.format.specs.declared.refusal.Refusal.{Refusal}
-use Rattle.format.specs.declared.refusal.Refusal.TheVariants.{BlockLineCount, MemoryReach, WrongLength}
+use Rattle.format.specs.declared.refusal.Refusal.TheVariants.{BlockLineCount, MemoryReach}
 use Rattle.quantizer.specs.declared.characteristic.Characteristic.{Characteristic}
-use Rattle.codec.specs.Coder.{picture_length, header_written, header_length, opened_coding_on, coding_test, block_line_coded_on, block_line_coded, finish_coded, with_parity}
-use Rattle.codec.specs.Decoder.{Frame, begun, reach_test, opened_on, opening, block_lines, record_test, block_line_on, block_line, finish_test, finish_on, finish, top_in}
+use Rattle.codec.specs.Decoder.{Frame, reach_test, opened_on, block_lines, record_test, block_line_on, block_line, finish_test, finish_on, top_in}
 use Rattle.codec.specs.Signal.{Signal}
 use Rattle.codec.specs.declared.decoder.Idle.{Idle}
-use Rattle.law.specs.Runs.{Sent, begun_with, with_record, Written, Taken, Resting, Working, CoderRun, DecoderRun}
-use Rattle.law.proofs.Histories.{sent_to, sent_by, Works, works_raster, works_header, works_done, decodes, codes, reach_passed}
+use Rattle.law.specs.Runs.{Sent, begun_with, Taken, Resting, Working, DecoderRun}
+use Rattle.law.proofs.Histories.{sent_to, Works, works_raster, works_header, works_done, decodes}
 use Rattle.law.proofs.Lengths.{reach_worked, reach_through}
-use Rattle.law.proofs.Through.{Reach, Hand, in_hand, header_in, worked, through, Usable}
+use Rattle.law.proofs.Through.{Reach, header_in, through, Usable}
 
 -- a test that finds no fault passes
 pub no_refusal_if : (fault : Bool) (why : Refusal) → fault ≡ false → refuse_if fault why ≡ Ok tt

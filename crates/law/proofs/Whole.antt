@@ -1,7 +1,6 @@
 -- The law over whole runs, put together.
-use Rattle.std.proofs.Common.{◌≡◌, ℕ, zero, suc, ◌+◌, ◌-◌, ◌*◌, ◌<◌, ◌≤◌, Bool, true, false, leb, List, [], ◌∷◌, ◌++◌, map, length, get_or, take, drop, ℤ, pos, negsuc, nat_abs, ◌≤ℤ◌, Ok, sym, refl, ap, ◌∙◌, subst, subst₂, arith}
+use Rattle.std.proofs.Common.{◌≡◌, ℕ, zero, suc, ◌-◌, ◌*◌, ◌<◌, ◌≤◌, Bool, true, false, leb, List, [], ◌∷◌, ◌++◌, length, take, drop, ℤ, pos, nat_abs, Ok, sym, refl, ap, ◌∙◌, subst, subst₂, arith}
 use Rattle.std.proofs.lemmas.List.{append-nil, take-append-drop, length-map, length-drop, length-take}
-use Rattle.std.proofs.lemmas.Int.{ints}
 use Rattle.std.proofs.lemmas.Bool.{and_parts, leb-true, leb-false}
 use Rattle.format.proofs.FrontTests.{still_usable}
 use Rattle.format.proofs.SoundLaws.{no_fault}
@@ -19,17 +18,15 @@ use Rattle.quantizer.specs.declared.characteristic.Characteristic.{Characteristi
 use Rattle.codec.proofs.CodedRecords.{lines_long, record_is}
 use Rattle.codec.specs.Block.{geometry_of}
 use Rattle.codec.specs.Coder.{coded_lines, picture_length, record_written}
-use Rattle.codec.specs.Decoder.{Frame, above_next, between_fields, block_lines, flushed, next_course, reach_test, top_in}
-use Rattle.codec.specs.Line.{resets}
+use Rattle.codec.specs.Decoder.{Frame, above_next, between_fields, block_lines, next_course, reach_test, top_in}
 use Rattle.codec.specs.Signal.{Signal}
 use Rattle.codec.specs.Step.{course}
-use Rattle.codec.specs.declared.decoder.Idle.{Idle}
-use Rattle.law.specs.Law.{Within, OfPels, Cleared, Matches, SameHeld, taken_at, written_at, IsParity, ClearedEndsAgree, CodedPelsInRange, CodedPelsClose, ParitiesCountOnes, PlanesNameWhatDiffers, RefreshHeals, FramesAreCoded, RecordsAreTaken, FramesAreTaken, LawOfRuns, Law}
-use Rattle.law.specs.Runs.{Sent, Written, Taken, Standing, Resting, Working, CoderRun, DecoderRun}
+use Rattle.law.specs.Law.{Within, OfPels, taken_at, written_at, IsParity, ClearedEndsAgree, CodedPelsInRange, CodedPelsClose, ParitiesCountOnes, PlanesNameWhatDiffers, RefreshHeals, FramesAreCoded, RecordsAreTaken, FramesAreTaken, Law}
+use Rattle.law.specs.Runs.{Sent, Written, Taken, Standing, CoderRun}
 use Rattle.law.proofs.Acceptance.{omitted_uncoded, usable_whole}
 use Rattle.law.proofs.Calls.{CodesLine, codes_line}
 use Rattle.law.proofs.Closeness.{coded_pels_close}
-use Rattle.law.proofs.Coders.{Fine, FineAll, Keeps, keeps}
+use Rattle.law.proofs.Coders.{FineAll, Keeps, keeps}
 use Rattle.law.proofs.Coding.{frame_coded}
 use Rattle.law.proofs.Entering.{parity_counts}
 use Rattle.law.proofs.Held.{cleared_agree}

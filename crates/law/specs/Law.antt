@@ -1,6 +1,6 @@
 -- The law over whole runs of a coder and a decoder: what they hold, name and count when one decodes what
 -- the other wrote.
-use Rattle.std.specs.Prelude.{◌≡◌, ℕ, ◌+◌, ◌-◌, ◌*◌, ◌%◌, ◌<◌, ◌≤◌, Bool, true, false, not, ◌&&◌, ◌⊎◌, List, [], ◌∷◌, ◌++◌, map, length, take, replicate, ℤ, pos, negsuc, ◌-ℤ◌, ◌≤ℤ◌, Ok, ◌==◌, nat_le, slice_index, slice_index_or}
+use Rattle.std.specs.Prelude.{◌≡◌, ℕ, ◌+◌, ◌-◌, ◌*◌, ◌%◌, ◌<◌, ◌≤◌, Bool, true, false, not, ◌⊎◌, List, [], ◌∷◌, ◌++◌, map, length, take, replicate, ℤ, pos, negsuc, ◌≤ℤ◌, Ok, ◌==◌, nat_le, slice_index, slice_index_or}
 use Rattle.format.specs.Bits.{bit_at, digit}
 use Rattle.format.specs.Header.{read_header}
 use Rattle.format.specs.Raster.{width, frame}

@@ -1,4 +1,6 @@
 // The law over whole runs of a coder and a decoder, and how two ends are compared.
+#![tactic(auto)]
+
 pub mod compare;
 
 ghost use Rattle.law.specs.Law.{Law};

@@ -1,7 +1,7 @@
 -- Means of pels stay pels.
-use Rattle.std.proofs.Common.{◌≡◌, false, ℤ, pos, negsuc, ◌+ℤ◌, refl, arith, w8, w16, SFits, to_z, of_z}
+use Rattle.std.proofs.Common.{◌≡◌, false, ℤ, pos, negsuc, ◌+ℤ◌, refl, arith, w8, w16, SFits}
 use lib.Signed.{shr_z}
-use Rattle.std.proofs.lemmas.Int.{ints, to_z-of_z}
+use Rattle.std.proofs.lemmas.Int.{ints}
 use lib.Signed.{lt_z}
 use Rattle.prediction.specs.Rules.{halved, mean, hold, altered, sum}
 use Rattle.prediction.specs.declared.marks.Sum.{Sum}

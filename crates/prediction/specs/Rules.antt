@@ -1,6 +1,5 @@
 -- The rules of one pel, over whole numbers: from the values that a pel reads to what follows.
-use Rattle.std.specs.Prelude.{ℕ, ◌+◌, ◌-◌, ◌/◌, Bool, true, false, cond, not, ◌&&◌, ◌||◌, ℤ, pos, negsuc, ◌+ℤ◌, ◌-ℤ◌, int_lt, nat_le, unsigned_abs}
-use Rattle.std.specs.Int.Signed.{le_z}
+use Rattle.std.specs.Prelude.{ℕ, ◌-◌, ◌/◌, Bool, true, false, cond, not, ◌&&◌, ◌||◌, ℤ, pos, negsuc, ◌+ℤ◌, ◌-ℤ◌, int_lt, nat_le, unsigned_abs}
 use Rattle.prediction.specs.declared.marks.Marks.{Marks}
 use Rattle.prediction.specs.declared.marks.MarksAround.{MarksAround}
 use Rattle.prediction.specs.declared.marks.Around.{Around}

@@ -1,5 +1,5 @@
 -- Characteristics that are symmetrical about zero: they work on the size, and the sign goes through.
-use Rattle.std.specs.Prelude.{ℕ, Bool, true, false, ℤ, pos, negsuc, neg_ℤ, int_lt, unsigned_abs}
+use Rattle.std.specs.Prelude.{ℕ, Bool, true, false, ℤ, pos, neg_ℤ, int_lt, unsigned_abs}
 
 -- the number of a size, negative or not
 abbrev pub with_sign : Bool → ℕ → ℤ

@@ -1,4 +1,6 @@
 // Quantizing characteristics: what a set of four means, and two sets that mean it.
+#![tactic(auto)]
+
 pub mod characteristic;
 pub mod figures;
 pub mod lineup;

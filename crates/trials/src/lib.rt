@@ -1,3 +1,5 @@
+#![tactic(auto)]
+
 // Trials on examples: the worked figures, the refusals of the calls, the two makes, frames coded from bytes.
 #[cfg(test)]
 mod coding;

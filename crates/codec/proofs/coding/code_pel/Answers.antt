@@ -28,6 +28,6 @@ returns-clause-does g c =
     let v : ℤ = level_value (g.S.CharacteristicSet.tops a.set.now a.q) (g.S.CharacteristicSet.values a.set.now a.q) c.byte-level.result in
     let enters : Worked → Course = λ x. enter_pel a.g a.control a.line a.pel x (course s a.tally) in
     let read : course (signal g.P.DelayMemory.held g.B.DelayMemory.held g.L.DelayMemory.held g.K.DelayMemory.held c.enter_pel.new.m) c.enter_pel.result
-            ≡ enters (worked_from (reading_as mode a.g a.line a.block a.pel s) v) =
-        search rules in
+    ≡ enters (worked_from (reading_as mode a.g a.line a.block a.pel s) v) =
+    search rules in
     read ∙ ap enters (sym (worked_reading mode a.g a.line a.block a.pel v s))

@@ -1,8 +1,8 @@
-use Rattle.std.proofs.Common.{◌≡◌, ℕ, ◌+◌, ◌-◌, ◌*◌, ◌/◌, ◌%◌, ◌^◌, ◌<◌, ◌≤◌, get_or, sym, ap, ◌∙◌, arith}
+use Rattle.std.proofs.Common.{◌≡◌, ℕ, ◌+◌, ◌-◌, ◌*◌, ◌/◌, ◌%◌, ◌^◌, sym, ap, ◌∙◌, arith}
 use Rattle.std.proofs.lemmas.Nat.{one_shl}
 use Rattle.format.specs.Bits.{field_of}
 use Rattle.format.proofs.Fields.{field_below, field_short}
-use Rattle.format.proofs.Windows.{pair_at, window}
+use Rattle.format.proofs.Windows.{window}
 use Rattle.format.proofs.bits.field.Goals as goal
 use Rattle.format.proofs.bits.field.Goals.{After-from-low}
 

@@ -1,4 +1,4 @@
-use Rattle.std.proofs.Common.{◌≡◌, ◌≤◌, length, sym, ap, ◌∙◌, arith, rules}
+use Rattle.std.proofs.Common.{◌≤◌, length, sym, ap, ◌∙◌, rules}
 use Rattle.std.proofs.lemmas.List.{get_or_past}
 use Rattle.format.specs.Record.{head_of, head_in}
 use Rattle.format.proofs.words.head_in.Goals as goal

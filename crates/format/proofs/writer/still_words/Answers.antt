@@ -1,4 +1,4 @@
-use Rattle.std.proofs.Common.{◌≡◌, ℕ, ◌<◌, length, ap, ◌∙◌, arith, length-set}
+use Rattle.std.proofs.Common.{◌<◌, length, ap, ◌∙◌, arith, length-set}
 use Rattle.format.specs.Front.{still}
 use Rattle.format.specs.Raster.{blocks}
 use Rattle.format.specs.RecordOver.{front_bytes}

@@ -1,4 +1,4 @@
-use Rattle.std.proofs.Common.{◌≡◌, ℕ, ◌+◌, ◌-◌, Bool, true, false, not, length, sym, ap, ◌∙◌, arith}
+use Rattle.std.proofs.Common.{◌≡◌, ℕ, ◌+◌, ◌-◌, true, false, length, sym, ap, ◌∙◌, arith}
 use Rattle.format.specs.RecordWriting.{range_test}
 use Rattle.format.specs.Usable.{in_order}
 use Rattle.format.specs.declared.refusal.Refusal.TheVariants.{VectorRange}

@@ -1,4 +1,4 @@
-use Rattle.std.proofs.Common.{◌≡◌, ◌-◌, ◌%◌, sym, ap}
+use Rattle.std.proofs.Common.{◌-◌, ◌%◌, sym, ap}
 use Rattle.format.specs.Bits.{bit_at}
 use Rattle.format.specs.RecordWriting.{words_bit}
 use Rattle.format.proofs.RecordLaws.{words_bit_past}

@@ -1,4 +1,4 @@
-use Rattle.std.proofs.Common.{◌≡◌, ℕ, ◌+◌, ◌-◌, ◌*◌, sym, ap, ◌∙◌, arith}
+use Rattle.std.proofs.Common.{◌≡◌, ◌+◌, ◌-◌, ◌*◌, sym, ap, ◌∙◌, arith}
 use Rattle.format.specs.Bits.{digit, packed}
 use Rattle.format.specs.RecordWriting.{words_bit, words_byte}
 use Rattle.format.proofs.Packed.{digit_most, packed_short, packed_none, packed_more, bool_digit}

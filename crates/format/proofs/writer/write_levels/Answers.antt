@@ -1,4 +1,4 @@
-use Rattle.std.proofs.Common.{◌≡◌, ℕ, ◌<◌, ◌≢◌, map, length, get_or, ℤ, pos, sym, ap, ◌∙◌, arith, w8, SFits, to_z, of_z, rules, below_more}
+use Rattle.std.proofs.Common.{◌≢◌, map, get_or, pos, sym, ap, ◌∙◌, arith, w8, SFits, rules, below_more}
 use Rattle.std.proofs.lemmas.List.{get_or-set_same, get_or-set_other, get_or-map, length-map, ext_get_or}
 use Rattle.std.proofs.lemmas.Int.{to_z-of_z}
 use Rattle.format.specs.Packing.{twos_field}

@@ -1,4 +1,4 @@
-use Rattle.std.proofs.Common.{◌≡◌, ℕ, ◌*◌, List, length, sym, subst, arith, rules}
+use Rattle.std.proofs.Common.{ℕ, ◌*◌, List, length, sym, subst, arith, rules}
 use Rattle.format.specs.Survival.{Holds}
 use Rattle.format.proofs.SurvivalLaws.{records_read_back}
 use Rattle.format.proofs.WriteLaws.{count_passed, ranged_passed}

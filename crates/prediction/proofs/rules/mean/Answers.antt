@@ -1,6 +1,6 @@
-use Rattle.std.proofs.Common.{ℤ, pos, negsuc, ◌+ℤ◌, arith, w8, w16, SFits}
+use Rattle.std.proofs.Common.{pos, ◌+ℤ◌, arith, w8, w16, SFits}
 use Rattle.std.proofs.lemmas.Int.{ints, to_z-of_z}
-use Rattle.prediction.specs.Rules.{halved, mean}
+use Rattle.prediction.specs.Rules.{mean}
 use Rattle.prediction.proofs.Means.{shift_halves, sum_fits, more_fits, mean_fits, mean_fits_16}
 use Rattle.prediction.proofs.rules.mean.Goals as goal
 

@@ -1,6 +1,6 @@
-use Rattle.std.proofs.Common.{◌≡◌, false, pos, negsuc, ◌+ℤ◌, arith, w8, w16, SFits}
+use Rattle.std.proofs.Common.{◌≡◌, false, pos, negsuc, ◌+ℤ◌, arith}
 use lib.Signed.{lt_z}
-use Rattle.std.proofs.lemmas.Int.{ints, to_z-of_z}
+use Rattle.std.proofs.lemmas.Int.{ints}
 use Rattle.prediction.proofs.Means.{sum_within}
 use Rattle.prediction.proofs.rules.sum.Goals as goal
 

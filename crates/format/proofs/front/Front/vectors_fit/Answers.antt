@@ -1,7 +1,7 @@
-use Rattle.std.proofs.Common.{◌≡◌, ◌+◌, Bool, true, false, sym, ◌∙◌, arith}
+use Rattle.std.proofs.Common.{◌+◌, true, false, sym, ◌∙◌, arith}
 use Rattle.format.specs.Raster.{blocks}
 use Rattle.format.specs.RecordOver.{front_bytes}
-use Rattle.format.specs.Usable.{refuse_if, bad_vector, vector_test}
+use Rattle.format.specs.Usable.{vector_test}
 use Rattle.format.specs.declared.refusal.Refusal.TheVariants.{VectorRange}
 use Rattle.format.proofs.InOrder.{in_order_here, in_order_past, in_order_done}
 use Rattle.format.proofs.Verdicts.{vector_verdict}

@@ -1,4 +1,4 @@
-use Rattle.std.proofs.Common.{◌≡◌, ℕ, List, [], ◌∷◌, ap, ◌∙◌}
+use Rattle.std.proofs.Common.{◌≡◌, [], ◌∷◌, ap, ◌∙◌}
 use Rattle.format.specs.Header.{read_header}
 use Rattle.format.specs.HeaderWriting.{header_bytes}
 use Rattle.format.proofs.HeaderLaws.{headers_read_back}

@@ -1,6 +1,5 @@
-use Rattle.std.proofs.Common.{◌≡◌, ℕ, ◌+◌, ◌<◌, ◌≤◌, sym, ap, ◌∙◌, arith}
+use Rattle.std.proofs.Common.{◌+◌, ap, ◌∙◌, arith}
 use Rattle.std.proofs.lemmas.Bool.{and_from, le-leb}
-use Rattle.format.specs.Modes.{block_of}
 use Rattle.format.specs.Raster.{blocks}
 use Rattle.format.specs.RecordOver.{bytes_of}
 use Rattle.format.specs.Usable.{thinned}

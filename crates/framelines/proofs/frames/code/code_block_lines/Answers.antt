@@ -1,4 +1,4 @@
-use Rattle.std.proofs.Common.{◌≡◌, ℕ, ◌+◌, ◌*◌, sym, ap, ◌∙◌, mul_comm, arith}
+use Rattle.std.proofs.Common.{◌≡◌, ℕ, ◌*◌, ap, ◌∙◌, mul_comm, arith}
 use Rattle.codec.specs.Coder.{coded_frame_of}
 use Rattle.codec.specs.Decoder.{block_lines}
 use Rattle.codec.specs.Signal.{signal}

@@ -1,4 +1,4 @@
-use Rattle.std.proofs.Common.{◌≡◌, sym, ap, ◌∙◌}
+use Rattle.std.proofs.Common.{◌∙◌}
 use Rattle.codec.specs.Coder.{idle_of, coded_frame_of}
 use Rattle.codec.specs.Signal.{signal}
 use Rattle.framelines.proofs.CodedFrom.{finish_told, frame_finished}

@@ -1,4 +1,4 @@
-use Rattle.std.proofs.Common.{◌≡◌, ℕ, ◌<◌, ◌≢◌, map, length, get_or, take, ℤ, pos, sym, ap, ◌∙◌, arith, length-set, w8, SFits, to_z, of_z, rules, below_more}
+use Rattle.std.proofs.Common.{◌<◌, ◌≢◌, map, length, take, pos, sym, ◌∙◌, arith, length-set, w8, SFits, to_z, of_z, rules, below_more}
 use Rattle.std.proofs.lemmas.List.{get_or-set_same, get_or-set_other, get_or-map, get_or-take, length-map, length-take-le, ext_get_or}
 use Rattle.std.proofs.lemmas.Int.{to_z-of_z}
 use Rattle.format.specs.Bits.{level_of}

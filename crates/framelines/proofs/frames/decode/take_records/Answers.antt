@@ -1,8 +1,4 @@
-use Rattle.std.proofs.Common.{◌≡◌, ℕ, ◌*◌, sym, ap, ◌∙◌}
-use Rattle.codec.specs.Decoder.{block_line_as, frame_of, block_lines}
-use Rattle.codec.specs.Signal.{signal}
-use Rattle.format.specs.Raster.{record_length}
-use Rattle.framelines.specs.Frames.{records}
+use Rattle.std.proofs.Common.{◌*◌, ap, ◌∙◌}
 use Rattle.framelines.proofs.Records.{records_turn, records_done, records_same, next_start}
 use Rattle.framelines.proofs.frames.decode.take_records.Goals as goal
 

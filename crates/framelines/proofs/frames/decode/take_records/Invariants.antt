@@ -1,4 +1,4 @@
-use Rattle.std.proofs.Common.{◌≡◌, ◌+◌, ◌-◌, ◌*◌, ◌≤◌}
+use Rattle.std.proofs.Common.{◌≡◌, ◌+◌, ◌-◌, ◌*◌}
 use Rattle.codec.specs.Decoder.{frame_of}
 use Rattle.codec.specs.Signal.{signal}
 use Rattle.framelines.specs.Frames.{records}
