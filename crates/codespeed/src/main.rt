@@ -1,5 +1,7 @@
 // codespeed: codes six frames of the standard raster as often as its argument says, each time from
 // cleared memories. The lines of the frames go to standard output, the speed to standard error.
+#![tactic(auto)]
+
 use anyhow::anyhow;
 use codec::coder::{Idle, Open};
 use codec::memories::Memories;

@@ -1,5 +1,7 @@
 // framecode: codes frames of the bench raster from standard input and writes them to standard output, as
 // framelog reads them. A refusal ends it, and is told on standard error.
+#![tactic(auto)]
+
 use codec::coder::Idle;
 use codec::memories::Memories;
 use delay::memory::DelayMemory;

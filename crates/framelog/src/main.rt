@@ -1,4 +1,6 @@
 // framelog: decodes frames of the bench raster from standard input and prints a line for each.
+#![tactic(auto)]
+
 use codec::decoder::Idle;
 use codec::memories::Memories;
 use delay::memory::DelayMemory;

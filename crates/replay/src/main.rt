@@ -1,6 +1,8 @@
 // replay: decodes many streams of frames from standard input, each over cleared memories, and prints the
 // lines that framelog prints for each. A stream comes after its raster in three bytes (colour blocks,
 // luminance blocks, block-lines in a field) and its length in four, the most significant first.
+#![tactic(auto)]
+
 use codec::decoder::Idle;
 use codec::memories::Memories;
 use delay::memory::DelayMemory;

@@ -1,6 +1,8 @@
 // rooms: a meeting of two rooms. A coder and a decoder stand back to back on the bench raster, the coder
 // over rings and the decoder over banks, and go through a script: moving pictures in all modes, records
 // damaged on the way, and a wholly refreshed frame that heals. A line a frame tells what both ends hold.
+#![tactic(auto)]
+
 mod picture;
 mod script;
 mod transit;

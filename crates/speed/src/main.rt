@@ -1,5 +1,7 @@
 // speed: decodes the standard-raster frames of standard input as often as its argument says, each time
 // from cleared memories. The lines of the frames go to standard output, the speed to standard error.
+#![tactic(auto)]
+
 use codec::decoder::Idle;
 use codec::memories::Memories;
 use delay::memory::DelayMemory;

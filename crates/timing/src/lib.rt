@@ -1,4 +1,6 @@
 // What the benchmarks share: how many passes to make, and what is told of them.
+#![tactic(auto)]
+
 use std::time::Duration;
 use std::{env, fmt};
 
