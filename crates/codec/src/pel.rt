@@ -106,8 +106,8 @@ where
     }
 }
 
-// A repeated pel.
-pub(crate) fn repeated<P: DelayMemory<Element = i8>>(
+// Y of a repeated pel.
+pub(crate) fn repetition_at<P: DelayMemory<Element = i8>>(
     picture: &P,
     g: Geometry,
     line: LineModes,
@@ -140,7 +140,7 @@ where
 {
     match mode {
         PelMode::Clamped => Reading::Uncoded(0),
-        PelMode::Repeated => Reading::Uncoded(repeated(&m.picture, g, line, pel)),
+        PelMode::Repeated => Reading::Uncoded(repetition_at(&m.picture, g, line, pel)),
         PelMode::Subsampled => Reading::Omitted,
         PelMode::Forced => Reading::Intraframe(intraframe_at(&m.line, &m.marks)),
         PelMode::Burst => {

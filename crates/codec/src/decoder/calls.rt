@@ -1,6 +1,6 @@
 // The calls of a decoder.
 ghost use Rattle.std.specs.Prelude.{◌≡◌, ◌+◌, ◌<◌, ◌≤◌, true, OnOk, nat_le};
-ghost use Rattle.codec.specs.Decoder.{Accepts, reach_test, new_end, opening, opened_as, block_lines, frame_of, finish, finish_as, top_in, next_course, block_line, block_line_as};
+ghost use Rattle.codec.specs.Decoder.{Accepts, reach_test, new_end, opening, opened_as, block_lines, frame_of, above_next, between_fields, finish, finish_as, top_in, next_course, block_line, block_line_as};
 ghost use Rattle.codec.specs.Step.{course};
 ghost use Rattle.format.specs.Record.{is_whole, head_in};
 ghost use Rattle.format.specs.Reader.{read_bytes, verdict};
@@ -17,7 +17,7 @@ use crate::frame::{
     open_resets, parity_of, reaches, turn_left,
 };
 use crate::memories::Memories;
-use crate::modes::Tally;
+use crate::modes::{Above, Tally};
 use delay::memory::DelayMemory;
 use format::header::Header;
 use format::raster::Raster;
@@ -147,6 +147,33 @@ impl Idle {
 }
 
 impl Open {
+    // What stands above line 1 of the next block-line: a reset line where a field begins.
+    fn above_next(&self) -> Above
+        ensures { result ≡ above_next (frame_of self.now) }
+    {
+        above_next(self.raster, self.done, self.forced)
+    }
+
+    // Before the second field the pending line is flushed, and 6 reset lines follow it.
+    fn between_fields<P, B, L, K>(&self, m: &mut Memories<P, B, L, K>) -> Tally
+    where
+        P: DelayMemory<Element = i8>,
+        B: DelayMemory<Element = i8>,
+        L: DelayMemory<Element = i8>,
+        K: DelayMemory<Element = Marks>,
+        ensures does { course (signal P.DelayMemory.held B.DelayMemory.held L.DelayMemory.held K.DelayMemory.held m.new) result ≡ between_fields (frame_of self.now) (course (signal P.DelayMemory.held B.DelayMemory.held L.DelayMemory.held K.DelayMemory.held m.old) self.now.tally) }
+        ensures same { result.held ≡ self.now.tally.held }
+    {
+        between_fields(
+            m,
+            self.raster,
+            self.header,
+            self.done,
+            self.forced,
+            self.tally,
+        )
+    }
+
     // Works the next block-line from a record.
     fn work_next<P, B, L, K, S>(
         &self,
@@ -168,14 +195,7 @@ impl Open {
         ensures few { result.held ≤ self.now.tally.held + 4000 }
     {
         let second = self.done >= self.raster.block_lines();
-        let counted = between_fields(
-            m,
-            self.raster,
-            self.header,
-            self.done,
-            self.forced,
-            self.tally,
-        );
+        let counted = self.between_fields(m);
         work_block_line(
             m,
             set,
@@ -183,7 +203,7 @@ impl Open {
             head,
             reader,
             second,
-            above_next(self.raster, self.done, self.forced),
+            self.above_next(),
             counted,
         )
     }

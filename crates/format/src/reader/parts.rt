@@ -52,7 +52,7 @@ impl<'a> RecordReader<'a> {
         ensures { result ≡ word_part self.now.raster (read_bytes self.now) block }
     {
         if self.bytes.len() == self.raster.record_length() {
-            Record::over(self.raster, self.bytes).front().word(block)
+            Record::over(self.raster, self.bytes).word(block)
         } else {
             None
         }

@@ -1,7 +1,7 @@
 // The parts of a record: its front and its levels.
 ghost use Rattle.std.specs.Prelude.{◌≡◌, true, length};
 ghost use Rattle.format.specs.Raster.{line_levels, record_length};
-ghost use Rattle.format.specs.Record.{head_in, word_in, has_word, line_in, has_line, LevelsAt};
+ghost use Rattle.format.specs.Record.{head_in, word_in, has_word, word_at, line_in, has_line, LevelsAt};
 ghost use Rattle.format.specs.RecordOver.{bytes_of, front_bytes};
 
 use crate::front::Front;
@@ -46,6 +46,13 @@ impl<'a> Record<'a> {
         ensures { result ≡ word_in self.now.raster (bytes_of self.now) block }
     {
         self.front().word_of(block)
+    }
+
+    // The word of a block, 2 to K + 1.
+    pub fn word(&self, block: usize) -> Option<BlockWord>
+        ensures { result ≡ word_at self.now.raster (bytes_of self.now) block }
+    {
+        self.front().word(block)
     }
 
     // The level bytes of a line that has them.
