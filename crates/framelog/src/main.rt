@@ -63,11 +63,5 @@ fn run(rt: &HostRuntime) -> anyhow::Result<()> {
 }
 
 fn main(rt: HostRuntime) -> anyhow::Result<()> {
-    match run(&rt) {
-        Ok(()) => Ok(()),
-        Err(e) => {
-            eprintln!(rt; "framelog: {e}")?;
-            Err(e)
-        }
-    }
+    run(&rt)
 }
