@@ -1,6 +1,6 @@
 // What a coder finds: the prepared picture, the level of a pel, and the levels of a line.
 ghost use Rattle.std.specs.Prelude.{◌≡◌, ◌+◌, ◌^◌, ◌<◌, ◌≤◌, length, ◌-ℤ◌};
-ghost use Rattle.codec.specs.Coding.{limited, prepared, prediction_from, is_coded, level_for, level_at, coded, code_pels, code_line};
+ghost use Rattle.codec.specs.Coding.{limited, prepared, prediction_from, prediction_as, is_coded, level_for, level_at, coded, code_pels, code_line};
 ghost use Rattle.codec.specs.Line.{level_value};
 ghost use Rattle.codec.specs.Step.{course, step};
 ghost use Rattle.codec.specs.Signal.{signal};
@@ -69,6 +69,26 @@ pub(crate) fn prediction_from(reading: Reading) -> i8
     }
 }
 
+// The prediction of a pel, by how it is worked.
+pub(crate) fn prediction_as<P, B, L, K>(
+    m: &Memories<P, B, L, K>,
+    mode: PelMode,
+    g: Geometry,
+    line: LineModes,
+    block: BlockModes,
+    pel: usize,
+) -> i8
+where
+    P: DelayMemory<Element = i8>,
+    B: DelayMemory<Element = i8>,
+    L: DelayMemory<Element = i8>,
+    K: DelayMemory<Element = Marks>,
+    requires { g.width ≤ 1000 }
+    ensures { result ≡ prediction_as mode g line block pel (signal P.DelayMemory.held B.DelayMemory.held L.DelayMemory.held K.DelayMemory.held m.now) }
+{
+    prediction_from(reading(m, mode, g, line, block, pel))
+}
+
 // Whether a pel worked so is coded.
 pub(crate) fn is_coded(mode: PelMode) -> bool
     ensures { result ≡ is_coded mode }
@@ -107,6 +127,33 @@ pub(crate) fn level_for<S: CharacteristicSet>(
     } else {
         0
     }
+}
+
+// The level byte of a pel of a line, in a block.
+pub(crate) fn level_at<P, B, L, K, S>(
+    m: &Memories<P, B, L, K>,
+    set: &S,
+    q: Characteristic,
+    stop: bool,
+    g: Geometry,
+    line: LineModes,
+    block: BlockModes,
+    pel: usize,
+    z: i8,
+) -> u8
+where
+    P: DelayMemory<Element = i8>,
+    B: DelayMemory<Element = i8>,
+    L: DelayMemory<Element = i8>,
+    K: DelayMemory<Element = Marks>,
+    S: CharacteristicSet,
+    requires narrow { g.width ≤ 1000 }
+    requires colours { g.colour ≤ 1000 }
+    ensures { result ≡ level_at (S.CharacteristicSet.numbers set.now q) stop g line block pel z (signal P.DelayMemory.held B.DelayMemory.held L.DelayMemory.held K.DelayMemory.held m.now) }
+{
+    let mode = pel_mode(line, block.subsampled, pel);
+    let predicted = prediction_as(m, mode, g, line, block, pel);
+    byte(level_for(set, q, stop, mode, predicted, prepared(g, pel, z)))
 }
 
 // A pel of a line, in a block: its level is found and the pel enters, both from what it reads once.

@@ -1,7 +1,7 @@
 // One pel: where it looks, what follows, what enters the memories.
 ghost use Rattle.std.specs.Prelude.{◌≡◌, ◌+◌, ◌-◌, ◌^◌, ◌<◌, ◌≤◌};
 ghost use Rattle.codec.specs.Modes.{pel_mode, pel_is_luminance, lag};
-ghost use Rattle.prediction.specs.Rules.{intraframe, repetition, new_background};
+ghost use Rattle.prediction.specs.Rules.{intraframe, repetition, uncoded, new_background};
 ghost use Rattle.codec.specs.Signal.{pel_at, marks_at, signal};
 ghost use Rattle.codec.specs.Step.{marks_around, around, reading_as, worked_from, worked, settled, enter_y, settle_above, enter_worked, enter_pel, step, course};
 
@@ -119,6 +119,18 @@ pub(crate) fn repetition_at<P: DelayMemory<Element = i8>>(
     let near = pel_back(picture, g.near.saturating_sub(lag));
     let far = pel_back(picture, g.far.saturating_sub(lag));
     repetition(pel > g.colour, line.second, near, far)
+}
+
+// A repeated pel.
+pub(crate) fn repeated<P: DelayMemory<Element = i8>>(
+    picture: &P,
+    g: Geometry,
+    line: LineModes,
+    pel: usize,
+) -> Worked
+    ensures { result ≡ uncoded (repetition (pel_is_luminance g pel) line.second (pel_at (P.DelayMemory.held picture.now) (g.near - lag g line.above pel)) (pel_at (P.DelayMemory.held picture.now) (g.far - lag g line.above pel))) }
+{
+    uncoded(repetition_at(picture, g, line, pel))
 }
 
 // What a pel reads: where it looks depends on how it is worked.

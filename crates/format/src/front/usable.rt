@@ -43,7 +43,7 @@ fn bad_vector(word: BlockWord) -> bool
 
 impl<'a> Front<'a> {
     // Refuses the first block whose word is stray.
-    fn words_fit(&self, sbc: bool) -> Result<(), Refusal>
+    pub(crate) fn words_fit(&self, sbc: bool) -> Result<(), Refusal>
         ensures { result ≡ words_test self.now.raster sbc (front_bytes self.now) }
     {
         let head = self.head();
@@ -56,7 +56,7 @@ impl<'a> Front<'a> {
     }
 
     // Refuses a bit that is not 0 after the words, to the end of their last byte.
-    fn fill_fits(&self) -> Result<(), Refusal>
+    pub(crate) fn fill_fits(&self) -> Result<(), Refusal>
         ensures { result ≡ fill_test self.now.raster (front_bytes self.now) }
     {
         let used = WORD_BITS * self.raster.blocks();
@@ -68,7 +68,7 @@ impl<'a> Front<'a> {
     }
 
     // Refuses the first block whose vector is out of range.
-    fn vectors_fit(&self) -> Result<(), Refusal>
+    pub(crate) fn vectors_fit(&self) -> Result<(), Refusal>
         ensures { result ≡ vectors_test self.now.raster (front_bytes self.now) }
     {
         for block in FIRST_BLOCK..FIRST_BLOCK + self.raster.blocks() {

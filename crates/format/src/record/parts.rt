@@ -1,7 +1,7 @@
 // The parts of a record: its front and its levels.
 ghost use Rattle.std.specs.Prelude.{◌≡◌, true, length};
-ghost use Rattle.format.specs.Raster.{line_levels, record_length};
-ghost use Rattle.format.specs.Record.{head_in, word_in, has_word, word_at, line_in, has_line, LevelsAt};
+ghost use Rattle.format.specs.Raster.{word_bytes, line_levels, record_length};
+ghost use Rattle.format.specs.Record.{head_in, head_marked, words_in, word_in, has_word, word_at, line_in, has_line, LevelsAt};
 ghost use Rattle.format.specs.RecordOver.{bytes_of, front_bytes};
 
 use crate::front::Front;
@@ -38,6 +38,21 @@ impl<'a> Record<'a> {
         ensures { result ≡ head_in (bytes_of self.now) }
     {
         self.front().head()
+    }
+
+    // Whether the last four bits of the head are all 1.
+    pub fn head_marked(&self) -> bool
+        ensures { result ≡ head_marked (bytes_of self.now) }
+    {
+        self.front().head_marked()
+    }
+
+    // The bytes of the block words.
+    pub(crate) fn words(&self) -> &'a [u8]
+        ensures value { result.now ≡ words_in self.now.raster (bytes_of self.now) }
+        ensures len { length result.now ≡ word_bytes self.now.raster }
+    {
+        self.front().words()
     }
 
     // The word of a block that has one.

@@ -4,7 +4,7 @@ ghost use Rattle.format.specs.Modes.{block_of};
 ghost use Rattle.format.specs.Raster.{width};
 ghost use Rattle.format.specs.Record.{has_line};
 ghost use Rattle.format.specs.RecordOver.{bytes_of};
-ghost use Rattle.format.specs.Usable.{thinned, bad_level, Largest, AllWithin, line_test, levels_test, front_usable, usable};
+ghost use Rattle.format.specs.Usable.{words_test, fill_test, vectors_test, thinned, bad_level, Largest, AllWithin, line_test, levels_test, front_usable, usable};
 ghost use Rattle.format.specs.Sound.{Sound};
 
 use crate::bits::signed;
@@ -121,6 +121,27 @@ impl<'a> Record<'a> {
             self.line_tested(sbc, top, 2 * i + 2, &even)?;
         }
         Ok(())
+    }
+
+    // Refuses the first block whose word is stray.
+    fn words_fit(&self, sbc: bool) -> Result<(), Refusal>
+        ensures { result ≡ words_test self.now.raster sbc (bytes_of self.now) }
+    {
+        self.front().words_fit(sbc)
+    }
+
+    // Refuses a bit that is not 0 after the words, to the end of their last byte.
+    fn fill_fits(&self) -> Result<(), Refusal>
+        ensures { result ≡ fill_test self.now.raster (bytes_of self.now) }
+    {
+        self.front().fill_fits()
+    }
+
+    // Refuses the first block whose vector is out of range.
+    fn vectors_fit(&self) -> Result<(), Refusal>
+        ensures { result ≡ vectors_test self.now.raster (bytes_of self.now) }
+    {
+        self.front().vectors_fit()
     }
 
     // Gives the first refusal that applies to the front.
