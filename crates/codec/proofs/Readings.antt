@@ -34,8 +34,3 @@ pub worked_read : (g : Geometry) (l : LineModes) (b : BlockModes) (p : ℕ) (s :
     → m ≡ mode → r ≡ reading_as m g l b p s → w ≡ v → x ≡ worked_from r w → x ≡ worked_as mode g l b p v s
 worked_read g l b p s {mode} {m} {r} {v} {w} em er ew ex =
     ex ∙ ap (worked_from r) ew ∙ ap (λ z. worked_from z v) (er ∙ ap (λ z. reading_as z g l b p s) em) ∙ sym (worked_reading mode g l b p v s)
-
-pub predicted_read : (g : Geometry) (l : LineModes) (b : BlockModes) (p : ℕ) (s : Signal) {mode m : PelMode} {r : Reading} {x : ℤ}
-    → m ≡ mode → r ≡ reading_as m g l b p s → x ≡ prediction_from r → x ≡ prediction_as mode g l b p s
-predicted_read g l b p s {mode} em er ex =
-    ex ∙ ap prediction_from (er ∙ ap (λ z. reading_as z g l b p s) em) ∙ sym (predicted_reading mode g l b p s)
