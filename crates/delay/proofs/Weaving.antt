@@ -1,12 +1,10 @@
 -- The places of four banks that take elements in turn: the turn is the row, and the bank is the place within the turn.
 use Rattle.std.proofs.Common.{◌≡◌, ℕ, zero, suc, pred, ◌+◌, ◌*◌, ◌<◌, ◌≤◌, min, true, false, cond, eqb, List, [], ◌∷◌, length, get_or, set, sym, refl, ap, ◌∙◌, arith}
+use Rattle.std.proofs.Math.Nat.{suc-min-suc}
 use Rattle.delay.specs.Woven.{woven}
 
 next_turn : (row k : ℕ) → suc row * 4 + k ≡ suc (suc (suc (suc (row * 4 + k))))
 next_turn row k = omega arith
-
-min_suc : (m n : ℕ) → min (suc m) (suc n) ≡ suc (min m n)
-min_suc m n = omega arith
 
 module _ {X : Type 0} where
   -- banks that last n turns
@@ -47,7 +45,7 @@ module _ {X : Type 0} where
   woven_shortest (suc m) (suc n) (w ∷ ws) (x ∷ xs) [] zs e = absurd (omega arith)
   woven_shortest (suc m) (suc n) (w ∷ ws) (x ∷ xs) (y ∷ ys) [] e = absurd (omega arith)
   woven_shortest (suc m) (suc n) (w ∷ ws) (x ∷ xs) (y ∷ ys) (z ∷ zs) e =
-      ap (λ l. w ∷ x ∷ y ∷ z ∷ l) (woven_shortest m n ws xs ys zs (ap pred (simp min_suc at e)))
+      ap (λ l. w ∷ x ∷ y ∷ z ∷ l) (woven_shortest m n ws xs ys zs (ap pred (simp suc-min-suc at e)))
 
   -- the bank of the place k within a turn
   abbrev pub bank : ℕ → List X → List X → List X → List X → List X

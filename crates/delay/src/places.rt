@@ -1,5 +1,5 @@
 // Where the elements lie in cells that are written round and round.
-ghost use Rattle.std.specs.Prelude.{◌≡◌, ◌<◌, ◌≤◌};
+ghost use Rattle.std.specs.Prelude.{◌≡◌, ◌<◌, ◌≤◌, IfSome};
 ghost use Rattle.std.specs.List.{range_with_len};
 ghost use Rattle.delay.specs.Delay.{look};
 ghost use Rattle.delay.specs.Rotated.{rotated};
@@ -7,12 +7,12 @@ ghost use Rattle.delay.specs.Rotated.{rotated};
 // The place of the element n back, among `len` cells of which the one at `next` is the oldest.
 pub(crate) fn place_back(next: usize, len: usize, n: usize) -> Option<usize>
     requires { next ≤ len }
-    ensures { result ≡ look (rotated next (range_with_len 0 len)) n }
+    ensures found { result ≡ look (rotated next (range_with_len 0 len)) n }
+    ensures inside { IfSome result (λ place. place < len) }
 {
     if n == 0 || n > len {
-        return None;
-    }
-    if n <= next {
+        None
+    } else if n <= next {
         Some(next - n)
     } else {
         Some(len - (n - next))
@@ -22,7 +22,8 @@ pub(crate) fn place_back(next: usize, len: usize, n: usize) -> Option<usize>
 // The place of the oldest element, which the next one takes.
 pub(crate) fn place_oldest(next: usize, len: usize) -> Option<usize>
     requires { next ≤ len }
-    ensures { result ≡ look (rotated next (range_with_len 0 len)) len }
+    ensures found { result ≡ look (rotated next (range_with_len 0 len)) len }
+    ensures inside { IfSome result (λ place. place < len) }
 {
     if len == 0 {
         None

@@ -42,12 +42,7 @@ fn through_banks(
 
 // Whether two memories answer the same at each probe.
 fn alike<A: DelayMemory<Element = i8>, B: DelayMemory<Element = i8>>(a: &A, b: &B) -> bool {
-    for n in 0..PROBES {
-        if a.back(n) != b.back(n) {
-            return false;
-        }
-    }
-    a.reach() == b.reach()
+    a.reach() == b.reach() && (0..PROBES).all(|n| a.back(n) == b.back(n))
 }
 
 // The longer banks are used no further than the shortest, so that both hold the same eight pels.
@@ -82,10 +77,10 @@ fn cells_beyond_the_shortest_bank_are_kept(rt: HostRuntime) {
             banks.enter(x);
         }
     }
-    assert!(rt; first == [14, 5]);
-    assert!(rt; second == [15, 6, 99]);
-    assert!(rt; third == [12]);
-    assert!(rt; fourth == [13, 8, 99, 99]);
+    assert_eq!(rt; first, [14, 5]);
+    assert_eq!(rt; second, [15, 6, 99]);
+    assert_eq!(rt; third, [12]);
+    assert_eq!(rt; fourth, [13, 8, 99, 99]);
 }
 
 #[derive(Clone, Copy, PartialEq, Eq, Debug)]
@@ -124,5 +119,5 @@ fn a_memory_of_no_reach_holds_nothing(rt: HostRuntime) {
         through_banks(&mut first, &mut second, &mut none, &mut fourth, 7, 1),
         None
     );
-    assert!(rt; first == [1]);
+    assert_eq!(rt; first, [1]);
 }

@@ -4,10 +4,7 @@ ghost use Rattle.prediction.specs.Rules.{mean, luminance, interpolation, repetit
 ghost use Rattle.prediction.specs.Rules.{adaptive, forced, burst, uncoded, skipped, towards, new_background, byte};
 
 use crate::marks::{Around, BackgroundControl, Marks, MarksAround, NO_MARKS, Sum, Worked};
-
-const PEL_MIN: i16 = -128;
-
-const PEL_MAX: i16 = 127;
+use std::cmp::Ordering;
 
 // Half the sum, rounded up: (a + b + 1) / 2, rounded down, also below zero.
 pub fn mean(a: i8, b: i8) -> i8
@@ -106,22 +103,9 @@ pub fn nearer(y: i8, a: i8, b: i8) -> bool
 pub fn sum(prediction: i8, value: i8) -> Sum
     ensures { result ≡ sum prediction value }
 {
-    let whole = prediction as i16 + value as i16;
-    if whole < PEL_MIN {
-        Sum {
-            pel: i8::MIN,
-            held: true,
-        }
-    } else if whole > PEL_MAX {
-        Sum {
-            pel: i8::MAX,
-            held: true,
-        }
-    } else {
-        Sum {
-            pel: whole as i8,
-            held: false,
-        }
+    Sum {
+        pel: prediction.saturating_add(value),
+        held: prediction.checked_add(value).is_none(),
     }
 }
 
@@ -129,46 +113,29 @@ pub fn sum(prediction: i8, value: i8) -> Sum
 pub fn adaptive(a: Around, value: i8) -> Worked
     ensures { result ≡ adaptive a value }
 {
-    let Sum { pel, held } = sum(prediction(a), value);
-    let marks = Marks {
-        r1: nearer(pel, a.background, a.moved),
-        r2: nearer(pel, a.intraframe, x1(a)),
-        omitted: false,
-    };
-    Worked {
-        x: pel,
-        marks,
-        held,
-    }
+    let sum = sum(prediction(a), value);
+    sum.with_marks(Marks {
+        r1: nearer(sum.pel, a.background, a.moved),
+        r2: nearer(sum.pel, a.intraframe, x1(a)),
+        ..NO_MARKS
+    })
 }
 
 // A coded pel of a forced line, predicted by I: R1 is 0 and R2 is 1.
 pub fn forced(i: i8, value: i8) -> Worked
     ensures { result ≡ forced i value }
 {
-    let Sum { pel, held } = sum(i, value);
-    let marks = Marks {
-        r1: false,
+    sum(i, value).with_marks(Marks {
         r2: true,
-        omitted: false,
-    };
-    Worked {
-        x: pel,
-        marks,
-        held,
-    }
+        ..NO_MARKS
+    })
 }
 
 // A burst pel outside forced lines, predicted by Y a frame before: both marks are 0.
 pub fn burst(y: i8, value: i8) -> Worked
     ensures { result ≡ burst y value }
 {
-    let Sum { pel, held } = sum(y, value);
-    Worked {
-        x: pel,
-        marks: NO_MARKS,
-        held,
-    }
+    sum(y, value).with_marks(NO_MARKS)
 }
 
 // A pel that is not coded and not omitted by subsampling: clamped, repeated or of a reset line.
@@ -186,14 +153,12 @@ pub fn uncoded(x: i8) -> Worked
 pub fn skipped() -> Worked
     ensures { result ≡ skipped }
 {
-    let marks = Marks {
-        r1: false,
-        r2: false,
-        omitted: true,
-    };
     Worked {
         x: 0,
-        marks,
+        marks: Marks {
+            omitted: true,
+            ..NO_MARKS
+        },
         held: false,
     }
 }
@@ -202,12 +167,10 @@ pub fn skipped() -> Worked
 pub fn towards(y: i8, b: i8) -> i8
     ensures { result ≡ towards y b }
 {
-    if b < y {
-        b + 1
-    } else if y < b {
-        b - 1
-    } else {
-        b
+    match b.cmp(&y) {
+        Ordering::Less => b + 1,
+        Ordering::Equal => b,
+        Ordering::Greater => b - 1,
     }
 }
 
@@ -228,9 +191,5 @@ pub fn new_background(is_forced: bool, control: BackgroundControl, y: i8, before
 pub fn byte(y: i8) -> u8
     ensures { result ≡ byte y }
 {
-    if y >= 0 {
-        y as u8
-    } else {
-        (y as i16 + 256) as u8
-    }
+    y.cast_unsigned()
 }

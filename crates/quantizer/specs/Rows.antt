@@ -1,22 +1,21 @@
 -- The rules of the table, by one test of a row that the checker computes: each size of error, and each step.
-use Rattle.std.specs.Prelude.{◌≡◌, ℕ, zero, suc, ◌+◌, ◌<◌, ◌≤◌, Bool, true, cond, ◌&&◌, ltb, List, ◌==◌, nat_le, nat_lt, refl}
-use Rattle.std.proofs.Common.{sym, subst, inl, inr, arith}
-use Rattle.std.proofs.lemmas.Bool.{leb-true, ltb-true, and_parts, cases_lt}
+use Rattle.std.specs.Prelude.{◌≡◌, ℕ, zero, suc, ◌+◌, ◌<◌, ◌≤◌, Bool, true, cond, ◌&&◌, List, ◌==◌, nat_le, nat_lt, refl}
+use Rattle.std.proofs.Common.{arith}
+use Rattle.std.proofs.lemmas.Bool.{ltb-true, and_parts}
 use Rattle.std.proofs.lemmas.Bool.Decides.{Decides-below_and, nat_tests}
-use Rattle.quantizer.specs.Figures.{Ranged, end_of}
 use Rattle.quantizer.specs.Lawful.{Lawful, largest_error, near_limit, far_least, overshoot_most}
 use Rattle.quantizer.specs.Table.{row_of, top_of, shortfall_of, step_of, output_of, number_of, value_of}
 use Rattle.quantizer.specs.declared.characteristic.Characteristic.{Characteristic}
 use Rattle.quantizer.specs.declared.characteristic.Characteristic.TheVariants.{Q0, Q1, Q2, Q3}
 use Rattle.quantizer.specs.declared.table.Step.{Step}
-use Rattle.quantizer.specs.Magnitudes.{Sized, lawful, rising}
+use Rattle.quantizer.specs.Magnitudes.{Sized, lawful}
 
 -- a test passes at each number below n
-abbrev below : (ℕ → Bool) → ℕ → Bool
+abbrev pub below : (ℕ → Bool) → ℕ → Bool
 below p zero = true
 below p (suc n) = p n && below p n
 
-at_below : (p : ℕ → Bool) (n : ℕ) → below p n ≡ true → (k : ℕ) → k < n → p k ≡ true
+pub at_below : (p : ℕ → Bool) (n : ℕ) → below p n ≡ true → (k : ℕ) → k < n → p k ≡ true
 at_below p n t = (Decides-below_and p (λ k. p k ≡ true) (below p) (λ k. (λ e. e, λ e. e)) refl (λ _. refl) n).0 t
 
 -- the top, the shortfall, the step and the output at 0, and the output at the top
@@ -81,40 +80,9 @@ row_sized top shortfall row t =
       far = λ m g h. (at m (omega arith)).3 g;
     }
 
-table_sized : (q : Characteristic) → Sized (top_of q) (shortfall_of q) (step_of (row_of q)) (output_of (row_of q))
+pub table_sized : (q : Characteristic) → Sized (top_of q) (shortfall_of q) (step_of (row_of q)) (output_of (row_of q))
 table_sized q = row_sized (top_of q) (shortfall_of q) (row_of q) (table_passes q)
 
 -- each characteristic of the table keeps the rules
 pub table_lawful : (q : Characteristic) → Lawful (top_of q) (shortfall_of q) (number_of q) (value_of q)
 table_lawful q = lawful (top_of q) (shortfall_of q) (step_of (row_of q)) (output_of (row_of q)) (table_sized q)
-
--- a number and a value fit eight bits
-pub step_fits : (q : Characteristic) (m : ℕ) → m ≤ largest_error → step_of (row_of q) m ≤ 127
-step_fits q m h = omega (arith, (table_sized q).step_in_range m h, (table_sized q).top_most)
-
-pub output_fits : (q : Characteristic) (k : ℕ) → k ≤ top_of q → output_of (row_of q) k ≤ 127
-output_fits q k h =
-    let s = table_sized q in
-    elim (cases_lt k (top_of q)) [
-      | inl l ↦ omega (arith, rising (output_of (row_of q)) (top_of q) s.rises k (top_of q) l (omega arith), s.top_value_most)
-      | inr g ↦ let e : k ≡ top_of q = omega arith in subst (λ n. output_of (row_of q) n ≤ 127) (sym e) s.top_value_most
-    ]
-
--- the size m is at most the end of its step k, and above the earlier ends
-abbrev ranges : List Step → ℕ → Bool
-ranges row m = nat_le m (end_of row (step_of row m)) && below (λ j. ltb (end_of row j) m) (step_of row m)
-
-table_ranges : (q : Characteristic) → below (ranges (row_of q)) (suc largest_error) ≡ true
-table_ranges Q0 = refl
-table_ranges Q1 = refl
-table_ranges Q2 = refl
-table_ranges Q3 = refl
-
-pub table_ranged : Ranged
-table_ranged q m h =
-    let row = row_of q in
-    let t = and_parts _ _ (at_below (ranges row) (suc largest_error) (table_ranges q) m (omega arith)) in
-    record {
-      up_to_end = leb-true _ _ t.0;
-      past_earlier = λ j l. ltb-true _ _ (at_below (λ j. ltb (end_of row j) m) (step_of row m) t.1 j l);
-    }

@@ -8,13 +8,11 @@ use crate::set::{CharacteristicSet, LARGEST_ERROR};
 
 // All four characteristics are alike: each number is its own value, and an error is its own number,
 // held to -127 .. 127.
-#[derive(Clone, Copy)]
+#[derive(Clone, Copy, PartialEq, Eq, Hash, Debug, Default)]
 pub struct LineUpSet;
 
-const TOP: u8 = 127;
-
 impl CharacteristicSet for LineUpSet {
-    const LARGEST_TOP: u8 = TOP;
+    const LARGEST_TOP: u8 = 127;
 
     const LARGEST_SHORTFALL: u8 = 3;
 
@@ -26,9 +24,9 @@ impl CharacteristicSet for LineUpSet {
 
     ghost values = { λ _ _. line_up_value };
 
-    ghost greatest_top = { line_up_top };
+    ghost LARGEST_TOP = { line_up_top };
 
-    ghost greatest_shortfall = { line_up_shortfall };
+    ghost LARGEST_SHORTFALL = { line_up_shortfall };
 
     ghost lawful = { Prim.search rules };
 
@@ -41,7 +39,7 @@ impl CharacteristicSet for LineUpSet {
     ghost shortfall_reached = { Prim.search rules };
 
     fn top(&self, _q: Characteristic) -> u8 {
-        TOP
+        Self::LARGEST_TOP
     }
 
     fn shortfall(&self, _q: Characteristic) -> u8 {
@@ -49,24 +47,11 @@ impl CharacteristicSet for LineUpSet {
     }
 
     fn number(&self, _q: Characteristic, error: i16) -> Option<i8> {
-        if error.unsigned_abs() > LARGEST_ERROR {
-            return None;
-        }
-        Some(error.clamp(-(TOP as i16), TOP as i16) as i8)
+        let top = i16::from(Self::LARGEST_TOP);
+        (error.unsigned_abs() <= LARGEST_ERROR).then_some(error.clamp(-top, top) as i8)
     }
 
     fn value(&self, _q: Characteristic, number: i8) -> Option<i8> {
-        if number.unsigned_abs() > TOP {
-            return None;
-        }
-        Some(number)
-    }
-
-    fn top_limit() -> u8 {
-        Self::LARGEST_TOP
-    }
-
-    fn shortfall_limit() -> u8 {
-        Self::LARGEST_SHORTFALL
+        (number.unsigned_abs() <= Self::LARGEST_TOP).then_some(number)
     }
 }

@@ -13,10 +13,14 @@ pub const LARGEST_ERROR: u16 = 255;
 // `Lawful` has the rules that hold of each characteristic. A set may hold data of its own: what it
 // means is asked of the set at hand, and the constants are those of its kind.
 pub trait CharacteristicSet {
-    // No characteristic of a set of this kind has a larger top number.
+    // The largest top number of a set of this kind.
     const LARGEST_TOP: u8;
-    // No characteristic of a set of this kind has a larger shortfall.
+    // The largest shortfall of a set of this kind.
     const LARGEST_SHORTFALL: u8;
+
+    ghost LARGEST_TOP: { ℕ };
+
+    ghost LARGEST_SHORTFALL: { ℕ };
 
     ghost tops: { Self → Characteristic → ℕ };
 
@@ -25,10 +29,6 @@ pub trait CharacteristicSet {
     ghost numbers: { Self → Characteristic → ℤ → ℤ };
 
     ghost values: { Self → Characteristic → ℤ → ℤ };
-
-    ghost greatest_top: { ℕ };
-
-    ghost greatest_shortfall: { ℕ };
 
     // The top number: level numbers run from its opposite up to it.
     fn top(&self, q: Characteristic) -> u8
@@ -48,20 +48,26 @@ pub trait CharacteristicSet {
 
     // The constant `LARGEST_TOP`, which no set of this kind exceeds.
     fn top_limit() -> u8
-        ensures { result ≡ greatest_top };
+        ensures { result ≡ LARGEST_TOP }
+    {
+        Self::LARGEST_TOP
+    }
 
     // The constant `LARGEST_SHORTFALL`, which no set of this kind exceeds.
     fn shortfall_limit() -> u8
-        ensures { result ≡ greatest_shortfall };
+        ensures { result ≡ LARGEST_SHORTFALL }
+    {
+        Self::LARGEST_SHORTFALL
+    }
 
     ghost lawful: { (s : Self) (q : Characteristic) → Lawful (tops s q) (shortfalls s q) (numbers s q) (values s q) };
 
     // The largest top number of a set is that of its kind, and so is the largest shortfall.
-    ghost top_bounded: { (s : Self) (q : Characteristic) → tops s q ≤ greatest_top };
+    ghost top_bounded: { (s : Self) (q : Characteristic) → tops s q ≤ LARGEST_TOP };
 
-    ghost top_reached: { (s : Self) → (q : Characteristic) × (tops s q ≡ greatest_top) };
+    ghost top_reached: { (s : Self) → (q : Characteristic) × (tops s q ≡ LARGEST_TOP) };
 
-    ghost shortfall_bounded: { (s : Self) (q : Characteristic) → shortfalls s q ≤ greatest_shortfall };
+    ghost shortfall_bounded: { (s : Self) (q : Characteristic) → shortfalls s q ≤ LARGEST_SHORTFALL };
 
-    ghost shortfall_reached: { (s : Self) → (q : Characteristic) × (shortfalls s q ≡ greatest_shortfall) };
+    ghost shortfall_reached: { (s : Self) → (q : Characteristic) × (shortfalls s q ≡ LARGEST_SHORTFALL) };
 }

@@ -5,7 +5,7 @@ ghost use Rattle.quantizer.specs.Rows.{table_lawful};
 ghost use Rattle.std.proofs.Common.{rules};
 
 use crate::characteristic::Characteristic;
-use crate::set::{CharacteristicSet, LARGEST_ERROR};
+use crate::set::CharacteristicSet;
 use crate::sign::with_sign;
 
 // One step: the largest size of error that falls in it, and the output value.
@@ -127,9 +127,6 @@ const Q3_STEPS: [Step; 19] = [
     Step(255, 127),
 ];
 
-// How far a value of each characteristic may fall short of its error.
-const SHORTFALLS: [u8; 4] = [3, 3, 4, 6];
-
 // The steps of a characteristic, from the step of number 0 to that of the top number.
 fn row(q: Characteristic) -> &'static [Step]
     ensures { result.now ≡ row_of q }
@@ -147,17 +144,11 @@ fn step_of(row: &[Step], size: u8) -> u8
     requires { length row.now ≤ 255 }
     ensures { result ≡ step_of row.now size }
 {
-    let mut number = 0;
-    for Step(end, _) in row {
-        if *end < size {
-            number += 1;
-        }
-    }
-    number
+    row.iter().map(|Step(end, _)| u8::from(*end < size)).sum()
 }
 
 // The codec's table of quantizing characteristics: four rows of steps, the same for either sign.
-#[derive(Clone, Copy)]
+#[derive(Clone, Copy, PartialEq, Eq, Hash, Debug, Default)]
 pub struct StandardSet;
 
 impl CharacteristicSet for StandardSet {
@@ -173,9 +164,9 @@ impl CharacteristicSet for StandardSet {
 
     ghost values = { λ _ q. value_of q };
 
-    ghost greatest_top = { largest_top };
+    ghost LARGEST_TOP = { largest_top };
 
-    ghost greatest_shortfall = { largest_shortfall };
+    ghost LARGEST_SHORTFALL = { largest_shortfall };
 
     ghost lawful = { λ s q. table_lawful q };
 
@@ -192,31 +183,21 @@ impl CharacteristicSet for StandardSet {
     }
 
     fn shortfall(&self, q: Characteristic) -> u8 {
-        SHORTFALLS[q as usize]
+        match q {
+            Characteristic::Q0 | Characteristic::Q1 => 3,
+            Characteristic::Q2 => 4,
+            Characteristic::Q3 => 6,
+        }
     }
 
     fn number(&self, q: Characteristic, error: i16) -> Option<i8> {
-        let size = error.unsigned_abs();
-        if size > LARGEST_ERROR {
-            return None;
-        }
-        Some(with_sign(error < 0, step_of(row(q), size as u8)))
+        // the largest error has the largest size that a byte holds
+        let size = u8::try_from(error.unsigned_abs()).ok()?;
+        Some(with_sign(error < 0, step_of(row(q), size)))
     }
 
     fn value(&self, q: Characteristic, number: i8) -> Option<i8> {
-        let size = number.unsigned_abs();
-        if size > self.top(q) {
-            return None;
-        }
-        let Step(_, output) = row(q)[size as usize];
-        Some(with_sign(number < 0, output))
-    }
-
-    fn top_limit() -> u8 {
-        Self::LARGEST_TOP
-    }
-
-    fn shortfall_limit() -> u8 {
-        Self::LARGEST_SHORTFALL
+        let Step(_, output) = row(q).get(usize::from(number.unsigned_abs()))?;
+        Some(with_sign(number < 0, *output))
     }
 }

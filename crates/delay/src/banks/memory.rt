@@ -78,10 +78,8 @@ impl<'a> DelayMemory for Banks<'a> {
     }
 
     fn back(&self, n: usize) -> Option<i8> {
-        match place_back(self.next, self.rows * BANKS, n) {
-            Some(place) => Some(self.at(place)),
-            None => None,
-        }
+        let place = place_back(self.next, self.rows * BANKS, n)?;
+        Some(self.at(place))
     }
 
     // The oldest gives its cell to the pel. Cells that are not used stay as they are.

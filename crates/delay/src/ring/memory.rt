@@ -25,17 +25,14 @@ impl<'a, T: Copy> DelayMemory for Ring<'a, T> {
     }
 
     fn back(&self, n: usize) -> Option<T> {
-        let cells = &*self.cells;
-        match place_back(self.next, cells.len(), n) {
-            Some(place) => Some(cells[place]),
-            None => None,
-        }
+        let place = place_back(self.next, self.cells.len(), n)?;
+        Some(self.cells[place])
     }
 
+    // Looked up for each pel, so without an `Option` of the element between.
     fn back_or(&self, n: usize, none: T) -> T {
-        let cells = &*self.cells;
-        match place_back(self.next, cells.len(), n) {
-            Some(place) => cells[place],
+        match place_back(self.next, self.cells.len(), n) {
+            Some(place) => self.cells[place],
             None => none,
         }
     }

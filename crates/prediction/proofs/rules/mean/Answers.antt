@@ -1,22 +1,20 @@
-use Rattle.std.proofs.Common.{pos, ◌+ℤ◌, arith, w8, w16, SFits}
-use Rattle.std.proofs.lemmas.Int.{ints, to_z-of_z}
-use Rattle.prediction.specs.Rules.{mean}
-use Rattle.prediction.proofs.Means.{shift_halves, sum_fits, more_fits, mean_fits, mean_fits_16}
+use Rattle.std.proofs.Common.{◌≡◌, ℤ, pos, negsuc, ◌+ℤ◌, ◌/◌, ap, ◌∙◌, arith, w8, w16, SFits, to_z, of_z}
+use lib.Signed.{shr_z}
+use Rattle.std.proofs.lemmas.Int.{ints}
+use Rattle.prediction.specs.Rules.{halved, mean}
 use Rattle.prediction.proofs.rules.mean.Goals as goal
+
+-- a sum of two pels and 1, shifted and cast, is its half rounded down
+shifted : (a b s : ℤ) → SFits w8 a → SFits w8 b → s ≡ a +ℤ b +ℤ pos 1 → to_z w8 (of_z w8 (to_z w16 (of_z w16 (shr_z s 2)))) ≡ mean a b
+shifted a b (pos n) f g e =
+    let fits : to_z w8 (of_z w8 (to_z w16 (of_z w16 (pos (n / 2))))) ≡ pos (n / 2) = omega (arith, ints) in
+    fits ∙ ap halved e
+shifted a b (negsuc n) f g e =
+    let fits : to_z w8 (of_z w8 (to_z w16 (of_z w16 (negsuc (n / 2))))) ≡ negsuc (n / 2) = omega (arith, ints) in
+    fits ∙ ap halved e
 
 pub overflow_cast-result-3 : goal.overflow_cast-result-3
 overflow_cast-result-3 c = grind (arith, ints)
 
 pub returns : goal.returns
-returns c =
-    let a = c.args.a in
-    let b = c.args.b in
-    let fa = c.ranges.a in
-    let fb = c.ranges.b in
-    let fs : SFits w16 (a +ℤ b) = sum_fits a b fa fb in
-    let fm : SFits w16 (a +ℤ b +ℤ pos 1) = more_fits a b fa fb in
-    let f8 : SFits w8 (mean a b) = mean_fits a b fa fb in
-    let f16 : SFits w16 (mean a b) = mean_fits_16 a b fa fb in
-    let wa : SFits w16 a = grind (arith, ints) in
-    let wb : SFits w16 b = grind (arith, ints) in
-    simp (to_z-of_z, shift_halves)
+returns c = shifted c.args.a c.args.b _ c.ranges.a c.ranges.b (omega (arith, ints))

@@ -1,21 +1,13 @@
-use Rattle.std.proofs.Common.{◌<◌, length, Some, None, sym, refl, ap, ◌∙◌, rules}
-use Rattle.delay.proofs.Turning.{Lies, lies}
+use Rattle.std.proofs.Common.{Some, None, sym, refl, rules}
+use Rattle.delay.proofs.Turning.{lies}
 use Rattle.delay.proofs.ring.memory.RingDelayMemory.back.Goals as goal
-use Rattle.delay.proofs.ring.memory.RingDelayMemory.back.Goals.{In-Some}
 
 -- the element lies where the place says
-at : (g : _) (c : In-Some g) → Lies c.args.self.now.next c.args.self.now.cells.now c.args.n (Some c.in-Some.place)
-at g c = lies _ _ _ c.args.n (Some c.in-Some.place) refl c.args.self.now.within c.in-Some.ensures
+pub returns : goal.returns
+returns g c =
+    let at = lies _ c.args.self.now.cells.now _ _ (Some c.in_ok-place.place) refl c.args.self.now.within c.in_ok-place.ensures.found in
+    sym (at.1 c.index-self-place.result)
 
-pub offset_bounds-cells-place : goal.offset_bounds-cells-place
-offset_bounds-cells-place g c = let inside : c.in-Some.place < length c.args.self.now.cells.now = (at g c).0 in search rules
-
-pub bounds-cells-place : goal.bounds-cells-place
-bounds-cells-place g c = (at g c).0
-
-pub returns-in-Some : goal.returns-in-Some
-returns-in-Some g c =
-    ap Some c.index-cells-place.is ∙ sym ((at g (goal.at.returns-in-Some g c).In-Some).1 c.index-cells-place.result)
-
-pub returns-in-None : goal.returns-in-None
-returns-in-None g c = sym (lies c.args.self.now.next c.args.self.now.cells.now _ c.args.n None refl c.args.self.now.within c.in-None.ensures)
+pub returns-in_err-place : goal.returns-in_err-place
+returns-in_err-place g c =
+    let none = lies _ c.args.self.now.cells.now _ _ None refl c.args.self.now.within c.in_err-place.ensures.found in search rules
