@@ -4,7 +4,7 @@ use Rattle.std.specs.List.{range_with_len}
 use Rattle.std.specs.Result.{result_and}
 use Rattle.std.proofs.lemmas.List.FromFn.{length-map-range_with_len, get_or-map-range_with_len}
 use Rattle.std.proofs.lemmas.List.{length-map, get_or-map, take_all}
-use Rattle.std.proofs.lemmas.Bool.{and_parts, and_from, or_from, leb-true, le-leb, le-ltb, eq-eqb, not_from_true}
+use Rattle.std.proofs.lemmas.Bool.{and_from, or_from, le-leb, le-ltb, eq-eqb, not_from_true}
 use Rattle.format.specs.Bits.{field_of}
 use Rattle.format.specs.Front.{front_length, still, stilled, front_written}
 use Rattle.format.specs.Modes.{repeated}
@@ -16,7 +16,6 @@ use Rattle.format.specs.Sound.{has_level}
 use Rattle.format.specs.Survival.{words_read}
 use Rattle.format.specs.Usable.{Verdict, refuse_if, equals, mark_test, forced_test, forced_repeat, stray_word, word_test, words_test, fill_in, fill_test, bad_vector, vector_test, vectors_test, omitted, bad_level, level_test, line_test, levels_test, front_usable, usable}
 use Rattle.format.specs.declared.raster.Raster.{Raster}
-use Rattle.format.specs.declared.refusal.Refusal.{Refusal}
 use Rattle.format.specs.declared.refusal.Refusal.TheVariants.{FixedHeadBits, ForcedRepeat, StrayWord, VectorRange, LevelValue, WrongLength}
 use Rattle.format.specs.declared.words.BlockWord.{BlockWord}
 use Rattle.format.specs.declared.words.Head.{Head}
@@ -24,11 +23,9 @@ use Rattle.format.proofs.FrontLaws.{still_ranged}
 use Rattle.format.proofs.InOrder.{both_pass, both_from, in_order_all, in_order_from}
 use Rattle.format.proofs.RasterLaws.{width_least}
 use Rattle.format.proofs.SoundLaws.{no_fault}
+use Rattle.format.proofs.RecordLaws.{word_bounds}
 use Rattle.format.proofs.SurvivalLaws.{word_laid, fill_laid}
-
--- what passes where no fault is
-passes : (fault : Bool) (refusal : Refusal) → fault ≡ false → refuse_if fault refusal ≡ Ok tt
-passes fault refusal h = ap (λ b. refuse_if b refusal) h
+use Rattle.format.proofs.Verdicts.{passes}
 
 -- the tests of a front each for itself
 record TestsPass (raster : Raster) (sbc : Bool) (bytes : List ℕ) : Type 0 where
@@ -96,9 +93,7 @@ module _ (raster : Raster) (front : List ℕ) where
   pub stilled_word : (block : ℕ) → has_word raster block ≡ true → word_in raster (stilled raster front) block ≡ still (word_in raster front block)
   unfolding word_in
   stilled_word block has =
-      let within = and_parts (leb 2 block) (leb block (blocks raster + 1)) has in
-      let low = leb-true 2 block within.0 in
-      let high = leb-true block (blocks raster + 1) within.1 in
+      let within = word_bounds raster block has in
       let count = length-map-range_with_len (word_in raster front) 2 (blocks raster) in
       ap (λ xs. word_of xs (10 * (block - 2))) stilled_words
       ∙ word_laid still_words (word_bytes raster) still_room (still_ranged (words_read raster front)) (block - 2) (omega (arith, still_count))

@@ -8,7 +8,6 @@ pub mod SoundLaws
 pub mod Windows
 pub mod Packed
 pub mod HeaderLaws
-pub mod Laid
 pub mod WriteLaws
 pub mod FrontLaws
 pub mod RecordLaws

@@ -32,6 +32,15 @@ bit_above k x =
     let e : k + 1 ≡ 1 + k = omega arith in
     ap (λ (n : ℕ). eqb (x / 2 ^ n % 2) 1) e ∙ sym (ap (λ (n : ℕ). eqb (n % 2) 1) (shr-shr x 1 k))
 
+-- the same bits, from other places on
+pub packed_same : (f g : ℕ → Bool) (a b count : ℕ) → ((j : ℕ) → j < count → f (a + j) ≡ g (b + j)) → packed f a count ≡ packed g b count
+unfolding packed
+packed_same f g a b zero each = refl
+packed_same f g a b (suc count) each =
+    let before = packed_same f g a b count (λ j h. each j (omega arith)) in
+    let last = ap digit (each count (omega arith)) in
+    omega arith
+
 -- 0 has no bit set
 pub bit_zero : (k : ℕ) → bit_at k 0 ≡ false
 bit_zero k = ap (λ (n : ℕ). eqb (n % 2) 1) (zero-div (2 ^ k))

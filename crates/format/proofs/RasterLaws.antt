@@ -24,12 +24,6 @@ frame_least raster =
     let l : 29 ≤ lines raster = omega arith in
     mul-le 29 (width raster) (lines raster) (width raster) l (omega arith)
 
-pub frame_most : (raster : Raster) → frame raster ≤ 238875
-unfolding frame
-frame_most raster =
-    let l : lines raster ≤ 525 = omega arith in
-    mul-le (lines raster) (width raster) 525 455 l (width_most raster)
-
 pub picture_reach_is : (raster : Raster) → picture_reach raster ≡ frame raster + 7 * width raster + 15
 unfolding picture_reach
 picture_reach_is raster = refl

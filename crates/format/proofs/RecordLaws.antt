@@ -7,9 +7,10 @@ use Rattle.std.proofs.lemmas.List.{get_or_past}
 use Rattle.std.proofs.lemmas.Bool.{and_parts, leb-true, eqb-true, eq-eqb}
 use Rattle.format.specs.Bits.{bit_at, stream_bit, digit, packed, field_of, twos_complement, level_of}
 use Rattle.format.specs.Packing.{byte_of, twos_field}
-use Rattle.format.specs.Raster.{width, word_bytes, line_levels}
-use Rattle.format.specs.Record.{head_of, word_of, line_start, line_in, level_in}
+use Rattle.format.specs.Raster.{blocks, width, word_bytes, line_levels}
+use Rattle.format.specs.Record.{has_word, has_line, head_of, word_of, line_start, line_in, level_in}
 use Rattle.format.specs.RecordWriting.{head_byte, word_number, no_word, words_bit, words_byte, in_range}
+use Rattle.format.specs.Sound.{has_level}
 use Rattle.format.specs.declared.raster.Raster.{Raster}
 use Rattle.format.specs.declared.words.BlockWord.{BlockWord}
 use Rattle.format.specs.declared.words.Head.{Head}
@@ -17,6 +18,21 @@ use Rattle.format.proofs.Fields.{field_packed, field_below}
 use Rattle.format.proofs.Packed.{digit_most, bit_packed, packed_split, packed_none, packed_more, bit_zero, bit_byte, byte_bits, digit_same}
 use Rattle.format.proofs.RasterLaws.{width_least}
 use Rattle.format.proofs.Twos.{twos_back, twos_again, in_field_lem, field_most}
+
+-- the blocks that have a word
+pub word_bounds : (raster : Raster) (block : ℕ) → has_word raster block ≡ true → (2 ≤ block) × (block < 2 + blocks raster)
+word_bounds raster block has =
+    let within = and_parts (leb 2 block) (leb block (blocks raster + 1)) has in
+    let high = leb-true block (blocks raster + 1) within.1 in
+    (leb-true 2 block within.0, omega arith)
+
+-- the lines and the pels that have a level
+pub level_bounds : (raster : Raster) (line pel : ℕ) → has_line line ≡ true → has_level raster pel ≡ true
+    → (1 ≤ line) × (line ≤ 8) × (4 ≤ pel) × (pel ≤ width raster)
+level_bounds raster line pel has has' =
+    let lines = and_parts (leb 1 line) (leb line 8) has in
+    let pels = and_parts (leb 4 pel) (leb pel (width raster)) has' in
+    (leb-true 1 line lines.0, leb-true line 8 lines.1, leb-true 4 pel pels.0, leb-true pel (width raster) pels.1)
 
 -- the ten bits of a word by its three parts
 pub ten_bits : (words : List ℕ) (start : ℕ)

@@ -1,7 +1,7 @@
 -- A usable record is sound: each of its places passes its tests.
-use Rattle.std.proofs.Common.{◌≡◌, ℕ, ◌+◌, ◌-◌, ◌*◌, ◌≤◌, Bool, true, false, not, ◌&&◌, leb, List, pos, negsuc, nat_abs, Ok, sym, refl, ◌∙◌, arith}
+use Rattle.std.proofs.Common.{◌≡◌, ℕ, ◌+◌, ◌-◌, ◌*◌, ◌≤◌, Bool, true, false, not, ◌&&◌, List, pos, negsuc, nat_abs, Ok, sym, refl, ◌∙◌, arith}
 use Rattle.std.specs.Result.{result_and}
-use Rattle.std.proofs.lemmas.Bool.{and_parts, or_parts, not-false, leb-true, ltb-false, eqb-true, true≢false}
+use Rattle.std.proofs.lemmas.Bool.{or_parts, not-false, ltb-false, eqb-true, true≢false}
 use Rattle.format.specs.Bits.{field_of}
 use Rattle.format.specs.Modes.{repeated}
 use Rattle.format.specs.Raster.{blocks, width, line_levels}
@@ -14,6 +14,7 @@ use Rattle.format.specs.declared.refusal.Refusal.TheVariants.{FixedHeadBits, For
 use Rattle.format.proofs.Fields.{field_below}
 use Rattle.format.proofs.InOrder.{both_pass, in_order_all}
 use Rattle.format.proofs.RasterLaws.{width_least}
+use Rattle.format.proofs.RecordLaws.{word_bounds, level_bounds}
 use Rattle.format.proofs.Twos.{equals_true, twos_but_least}
 
 pub no_fault : (fault : Bool) (refusal : Refusal) → refuse_if fault refusal ≡ Ok tt → fault ≡ false
@@ -39,34 +40,25 @@ module _ (raster : Raster) (sbc : Bool) (top : ℕ) (bytes : List ℕ) where
       → stray_word sbc (head_in bytes) (word_in raster bytes block) ≡ false
   unfolding word_test
   word_passes h block has =
-      let within = and_parts (leb 2 block) (leb block (blocks raster + 1)) has in
-      let low = leb-true 2 block within.0 in
-      let high = leb-true block (blocks raster + 1) within.1 in
-      no_fault _ (StrayWord block) (in_order_all (word_test raster sbc bytes) 2 (blocks raster) h block low (omega arith))
+      let within = word_bounds raster block has in
+      no_fault _ (StrayWord block) (in_order_all (word_test raster sbc bytes) 2 (blocks raster) h block within.0 within.1)
 
   vector_passes : vectors_test raster bytes ≡ Ok tt → (block : ℕ) → has_word raster block ≡ true
       → bad_vector (word_in raster bytes block) ≡ false
   unfolding vector_test
   vector_passes h block has =
-      let within = and_parts (leb 2 block) (leb block (blocks raster + 1)) has in
-      let low = leb-true 2 block within.0 in
-      let high = leb-true block (blocks raster + 1) within.1 in
-      no_fault _ (VectorRange block) (in_order_all (vector_test raster bytes) 2 (blocks raster) h block low (omega arith))
+      let within = word_bounds raster block has in
+      no_fault _ (VectorRange block) (in_order_all (vector_test raster bytes) 2 (blocks raster) h block within.0 within.1)
 
   level_passes : levels_test raster sbc top bytes ≡ Ok tt → (line pel : ℕ) → has_line line ≡ true → has_level raster pel ≡ true
       → bad_level top (omitted raster sbc bytes line pel) (level_in raster bytes line pel) ≡ false
   unfolding line_test level_test
   level_passes h line pel has has' =
-      let rows = and_parts (leb 1 line) (leb line 8) has in
-      let first = leb-true 1 line rows.0 in
-      let last = leb-true line 8 rows.1 in
-      let pels = and_parts (leb 4 pel) (leb pel (width raster)) has' in
-      let low = leb-true 4 pel pels.0 in
-      let high = leb-true pel (width raster) pels.1 in
+      let within = level_bounds raster line pel has has' in
       let w = width_least raster in
-      let row = in_order_all (line_test raster sbc top bytes) 1 8 h line first (omega arith) in
+      let row = in_order_all (line_test raster sbc top bytes) 1 8 h line (omega arith) (omega arith) in
       no_fault _ (LevelValue ((line - 1) * width raster + pel))
-      (in_order_all (level_test raster sbc top bytes line) 4 (line_levels raster) row pel low (omega arith))
+      (in_order_all (level_test raster sbc top bytes line) 4 (line_levels raster) row pel (omega arith) (omega arith))
 
   vx_range : (block : ℕ) → bad_vector (word_in raster bytes block) ≡ false → nat_abs (word_in raster bytes block).vx ≤ 15
   unfolding word_in word_of

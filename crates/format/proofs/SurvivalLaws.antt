@@ -1,13 +1,13 @@
 -- Reading and writing a record undo each other.
-use Rattle.std.proofs.Common.{◌≡◌, ℕ, ◌+◌, ◌-◌, ◌*◌, ◌/◌, ◌%◌, ◌<◌, ◌≤◌, true, leb, List, ◌∷◌, ◌++◌, map, length, get_or, drop, ℤ, pos, sym, refl, ap, ◌∙◌, ⊎_elim, arith}
+use Rattle.std.proofs.Common.{◌≡◌, ℕ, ◌+◌, ◌-◌, ◌*◌, ◌/◌, ◌%◌, ◌<◌, ◌≤◌, true, List, ◌∷◌, ◌++◌, map, length, get_or, drop, ℤ, pos, sym, refl, ap, ◌∙◌, ⊎_elim, arith}
 use Rattle.std.specs.List.{range_with_len}
 use Rattle.std.proofs.lemmas.Nat.{pow_pos, mul-add-lt, div-add-mod', mod_below}
 use Rattle.std.proofs.lemmas.List.FromFn.{length-map-range_with_len, get_or-map-range_with_len, fill_by_all}
 use Rattle.std.proofs.lemmas.List.{length-append, length-map, length-drop, length-take-le, take_at, take-append-drop, get_or-append_right, get_or-map, get_or-drop, get_or-take, drop_more, ext_get_or}
-use Rattle.std.proofs.lemmas.Bool.{and_parts, leb-true, eqb-true, eq-eqb, cases_lt}
+use Rattle.std.proofs.lemmas.Bool.{eqb-true, eq-eqb, cases_lt}
 use Rattle.format.specs.Bits.{bit_at, stream_bit, field_of, level_of}
 use Rattle.format.specs.Packing.{Bytes, twos_field}
-use Rattle.format.specs.Raster.{blocks, width, word_bytes, line_levels, record_length}
+use Rattle.format.specs.Raster.{blocks, word_bytes, line_levels, record_length}
 use Rattle.format.specs.Record.{is_whole, head_in, head_marked, words_in, word_of, word_in, has_word, has_line, level_in}
 use Rattle.format.specs.RecordWriting.{head_byte, word_number, no_word, words_bit, words_byte, record_bytes, Ranged}
 use Rattle.format.specs.Sound.{has_level}
@@ -19,7 +19,7 @@ use Rattle.format.specs.declared.words.Head.{Head}
 use Rattle.format.proofs.Packed.{bit_packed, packed_bits, packed_zero, bit_zero, bit_of_byte}
 use Rattle.format.proofs.Fields.{field_packed}
 use Rattle.format.proofs.RasterLaws.{record_length_is, width_least}
-use Rattle.format.proofs.RecordLaws.{word_again, number_most, word_back, words_bit_past, words_bit_at, bytes_bit, level_place, head_back, head_marked_lem, head_again}
+use Rattle.format.proofs.RecordLaws.{word_bounds, level_bounds, word_again, number_most, word_back, words_bit_past, words_bit_at, bytes_bit, level_place, head_back, head_marked_lem, head_again}
 use Rattle.format.proofs.Twos.{twos_back, twos_again}
 
 -- the words are packed in their bytes, and fill the last one up
@@ -80,9 +80,7 @@ module _ (raster : Raster) (head : Head) (words : List BlockWord) (levels : List
   word_written : (block : ℕ) → has_word raster block ≡ true → word_in raster written block ≡ get_or words (block - 2) no_word
   unfolding word_in
   word_written block has =
-      let within = and_parts (leb 2 block) (leb block (blocks raster + 1)) has in
-      let low = leb-true 2 block within.0 in
-      let high = leb-true block (blocks raster + 1) within.1 in
+      let within = word_bounds raster block has in
       ap (λ (xs : List ℕ). word_of xs (10 * (block - 2))) words_written
       ∙ word_laid words (word_bytes raster) room ranged (block - 2) (omega arith)
 
@@ -104,15 +102,10 @@ module _ (raster : Raster) (head : Head) (words : List BlockWord) (levels : List
   level_written : (line pel : ℕ) → has_line line ≡ true → has_level raster pel ≡ true
       → level_in raster written line pel ≡ get_or levels ((line - 1) * line_levels raster + (pel - 4)) (pos 0)
   level_written line pel has has' =
-      let rows = and_parts (leb 1 line) (leb line 8) has in
-      let first = leb-true 1 line rows.0 in
-      let last = leb-true line 8 rows.1 in
-      let pels = and_parts (leb 4 pel) (leb pel (width raster)) has' in
-      let low = leb-true 4 pel pels.0 in
-      let high = leb-true pel (width raster) pels.1 in
+      let inside = level_bounds raster line pel has has' in
       let k = (line - 1) * line_levels raster + (pel - 4) in
       let within = mul-add-lt (line - 1) (line_levels raster) (pel - 4) 8 (omega arith) (omega arith) in
-      level_place raster written line pel low high
+      level_place raster written line pel (omega arith) (omega arith)
       ∙ ap level_of (behind k (omega arith))
       ∙ twos_back 128 (get_or levels k (pos 0)) (fit k)
 

@@ -1,43 +1,20 @@
 -- What a test of one place answers, by the flag that says whether there is a fault.
-use Rattle.std.proofs.Common.{◌≡◌, ℕ, ◌+◌, ◌-◌, ◌*◌, ◌<◌, Bool, not, List, get_or, ℤ, Ok, Err, sym, refl, ap, ◌∙◌, arith}
+use Rattle.std.proofs.Common.{◌≡◌, ℕ, ◌+◌, ◌-◌, ◌<◌, Bool, false, not, List, get_or, Ok, Err, sym, refl, ap, ◌∙◌, arith}
 use Rattle.std.proofs.lemmas.Bool.{lt-ltb}
-use Rattle.format.specs.Bits.{level_of}
-use Rattle.format.specs.Modes.{block_of, subsampled, omits_pel}
-use Rattle.format.specs.Raster.{width}
-use Rattle.format.specs.Record.{head_in, word_in, line_in, level_in}
+use Rattle.format.specs.Modes.{subsampled}
+use Rattle.format.specs.Record.{head_in, word_in}
 use Rattle.format.specs.RecordWriting.{no_word, in_range, range_test}
 use Rattle.std.specs.Result.{result_and}
-use Rattle.format.specs.Usable.{Verdict, refuse_if, mark_test, forced_test, stray_word, word_test, words_test, fill_test, bad_vector, vector_test, vectors_test, thinned, bad_level, level_test, levels_test, front_usable, usable}
+use Rattle.format.specs.Usable.{Verdict, refuse_if, mark_test, forced_test, words_test, fill_test, vectors_test, thinned, levels_test, front_usable, usable}
 use Rattle.format.specs.declared.raster.Raster.{Raster}
-use Rattle.format.specs.declared.refusal.Refusal.TheVariants.{StrayWord, VectorRange, LevelValue}
+use Rattle.format.specs.declared.refusal.Refusal.{Refusal}
+use Rattle.format.specs.declared.refusal.Refusal.TheVariants.{VectorRange}
 use Rattle.format.specs.declared.words.BlockWord.{BlockWord}
 use Rattle.format.specs.declared.words.Head.{Head}
 
-pub word_verdict : (raster : Raster) (sbc : Bool) (bytes : List ℕ) (block : ℕ) (head : Head) (word : BlockWord) (flag : Bool)
-    → head ≡ head_in bytes → word ≡ word_in raster bytes block → flag ≡ stray_word sbc head word
-    → word_test raster sbc bytes block ≡ refuse_if flag (StrayWord block)
-unfolding word_test
-word_verdict raster sbc bytes block head word flag h w f = rw (f, h, w)
-
-pub vector_verdict : (raster : Raster) (bytes : List ℕ) (block : ℕ) (word : BlockWord) (flag : Bool)
-    → word ≡ word_in raster bytes block → flag ≡ bad_vector word
-    → vector_test raster bytes block ≡ refuse_if flag (VectorRange block)
-unfolding vector_test
-vector_verdict raster bytes block word flag w f = rw (f, w)
-
-pub level_at_lem : (raster : Raster) (bytes : List ℕ) (line i : ℕ) (levels : List ℕ) → levels ≡ line_in raster bytes line
-    → level_of (get_or levels i 0) ≡ level_in raster bytes line (i + 4)
-unfolding level_in
-level_at_lem raster bytes line i levels e =
-    let same : i ≡ i + 4 - 4 = omega arith in
-    rw e (ap (λ (k : ℕ). level_of (get_or (line_in raster bytes line) k 0)) same)
-
-pub level_verdict : (raster : Raster) (sbc : Bool) (top : ℕ) (bytes : List ℕ) (line pel : ℕ) (head : Head) (thin : Bool) (gone : Bool) (level : ℤ) (w : ℕ) (flag : Bool)
-    → head ≡ head_in bytes → thin ≡ thinned raster sbc bytes (block_of pel) → gone ≡ omits_pel head thin line pel
-    → level ≡ level_in raster bytes line pel → w ≡ width raster → flag ≡ bad_level top gone level
-    → level_test raster sbc top bytes line pel ≡ refuse_if flag (LevelValue ((line - 1) * w + pel))
-unfolding level_test
-level_verdict raster sbc top bytes line pel head thin gone level w flag h t g l e f = rw (f, g, h, t, l, e)
+-- what passes where no fault is
+pub passes : (fault : Bool) (refusal : Refusal) → fault ≡ false → refuse_if fault refusal ≡ Ok tt
+passes fault refusal h = ap (λ b. refuse_if b refusal) h
 
 pub thinned_past_burst : (raster : Raster) (sbc : Bool) (bytes : List ℕ) (block : ℕ) (head : Head) (word : BlockWord) (flag : Bool)
     → 1 < block → head ≡ head_in bytes → word ≡ word_in raster bytes block → flag ≡ subsampled sbc head word

@@ -1,11 +1,13 @@
 -- What the reader of a record hands out: bytes of another length than the layout's have no parts.
-use Rattle.std.specs.Prelude.{◌≡◌, ℕ, Bool, true, cond, ◌&&◌, List, length, Some, None, Option}
+use Rattle.std.specs.Prelude.{◌≡◌, ℕ, Bool, true, false, cond, ◌&&◌, List, length, Some, None, Option}
 use Rattle.std.specs.Result.{result_and}
 use Rattle.format.specs.Raster.{line_levels}
 use Rattle.format.specs.Record.{is_whole, length_fits, head_in, word_at, has_line, line_in}
+use Rattle.format.specs.RecordOver.{bytes_of}
 use Rattle.format.specs.Usable.{Verdict, usable}
 use Rattle.format.specs.declared.raster.Raster.{Raster}
 use Rattle.format.specs.declared.reader.RecordReader.{RecordReader}
+use Rattle.format.specs.declared.record.Record.{Record}
 use Rattle.format.specs.declared.words.BlockWord.{BlockWord}
 use Rattle.format.specs.declared.words.Head.{Head}
 use Rattle.format.specs.declared.words.Levels.{Levels}
@@ -13,6 +15,12 @@ use Rattle.format.specs.declared.words.Levels.{Levels}
 -- the bytes that a reader stands over
 abbrev pub read_bytes : RecordReader → List ℕ
 read_bytes reader = reader.bytes.now
+
+-- the record that the bytes are, where they are as many as it has
+abbrev pub RecordPart : Raster → List ℕ → Option Record → Type 0
+RecordPart raster bytes None = is_whole raster bytes ≡ false
+RecordPart raster bytes (Some whole) =
+    (is_whole raster bytes ≡ true) × (whole.raster ≡ raster) × (bytes_of whole ≡ bytes)
 
 abbrev pub head_part : Raster → List ℕ → Option Head
 head_part raster bytes = cond (is_whole raster bytes) (Some (head_in bytes)) None

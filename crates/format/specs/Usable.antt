@@ -23,6 +23,11 @@ unfoldable pub in_order : (ℕ → Verdict) → ℕ → ℕ → Verdict
 in_order test start zero = Ok tt
 in_order test start (suc count) = result_and (test start) (in_order test (start + 1) count)
 
+-- what a test may answer at these places is what a function gives there
+abbrev pub AnswersAs : (ℕ → Verdict → Type 0) → ℕ → ℕ → (ℕ → Verdict) → Type 0
+AnswersAs answers start count test =
+    (place : ℕ) (verdict : Verdict) → start ≤ place → place < start + count → answers place verdict → verdict ≡ test place
+
 abbrev pub equals : ℤ → ℤ → Bool
 equals (pos a) (pos b) = a == b
 equals (pos a) (negsuc b) = false

@@ -31,7 +31,7 @@ pub(crate) fn stream_bit(bytes: &[u8], k: usize) -> bool
 fn byte_at(bytes: &[u8], i: usize) -> u8
     ensures { result ≡ slice_index bytes.now i }
 {
-    if i < bytes.len() { bytes[i] } else { 0 }
+    bytes.get(i).copied().unwrap_or(0)
 }
 
 // The number that some bits of a stream make, the most significant first. They lie in two bytes.
@@ -61,11 +61,9 @@ pub(crate) fn twos_complement(half: u8, field: u8) -> i8
     }
 }
 
-const HALF_BYTE: u8 = 128;
-
 // The level number that a byte stands for.
 pub fn signed(byte: u8) -> i8
     ensures { result ≡ level_of byte }
 {
-    twos_complement(HALF_BYTE, byte)
+    byte.cast_signed()
 }

@@ -7,9 +7,12 @@ use crate::bits::bit_at;
 use crate::packing::byte_of;
 use crate::refusal::{HeaderByte, Refusal};
 
+// The bytes of a header.
+pub const HEADER_BYTES: usize = 5;
+
 // What a frame header says. The parity is that of the frame before; buffer control, frequency control
 // and DRR are only carried.
-#[derive(Clone, Copy)]
+#[derive(Clone, Copy, PartialEq, Eq, Debug)]
 pub struct Header {
     pub parity: u8,
     pub sbc: bool,
@@ -66,7 +69,7 @@ impl Header {
     }
 
     // The five bytes of a header, with the fixed bits of FM1 and FM2.
-    pub fn write(&self) -> [u8; 5]
+    pub fn write(&self) -> [u8; HEADER_BYTES]
         ensures bytes { result ≡ header_bytes self.now }
         ensures read_back { read_header result ≡ Ok self.now }
     {
@@ -83,6 +86,7 @@ impl Header {
 }
 
 // Reading what was written gives the same header, and writing what was read the same bytes.
+#[tactic(auto, using(crate::proofs::HeaderLaws::headers_read_back, crate::proofs::HeaderLaws::header_bytes_written_back))]
 pub fn headers_survive()
     ensures read_back { HeadersReadBack }
     ensures written_back { HeaderBytesWrittenBack }

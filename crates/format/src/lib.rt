@@ -6,6 +6,7 @@ pub mod bits;
 mod front;
 pub mod header;
 pub mod modes;
+mod order;
 mod packing;
 pub mod raster;
 pub mod reader;

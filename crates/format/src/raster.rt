@@ -5,7 +5,7 @@ pub mod measures;
 
 // A raster within its limits: 1 to 4 colour blocks, 1 to 24 luminance blocks, and 1 to 32 block-lines
 // in each field.
-#[derive(Clone, Copy)]
+#[derive(Clone, Copy, PartialEq, Eq, Debug)]
 pub struct Raster {
     colour: usize,
     luminance: usize,

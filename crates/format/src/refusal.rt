@@ -1,20 +1,25 @@
 // What can be wrong with what the decoder is given.
-ghost use Rattle.std.specs.Prelude.{◌≡◌};
+ghost use Rattle.std.specs.Prelude.{◌≡◌, ◌∷◌, ◌++◌, Some};
+ghost use Rattle.std.specs.Fmt.{decimal};
 ghost use Rattle.format.specs.Refusal.{number_of, place_of};
 
+use std::error::Error;
+use std::fmt;
+
+// Each memory with the place that a refusal gives it.
 #[derive(Clone, Copy, PartialEq, Eq, Debug)]
 pub enum MemoryName {
-    Picture,
-    Background,
-    Line,
-    Marks,
+    Picture = 1,
+    Background = 2,
+    Line = 3,
+    Marks = 4,
 }
 
-// The two header bytes that have fixed bits.
+// The two header bytes that have fixed bits, each with the place that a refusal gives it.
 #[derive(Clone, Copy, PartialEq, Eq, Debug)]
 pub enum HeaderByte {
-    Fm1,
-    Fm2,
+    Fm1 = 1,
+    Fm2 = 2,
 }
 
 #[derive(Clone, Copy, PartialEq, Eq, Debug)]
@@ -63,9 +68,8 @@ impl Refusal {
         ensures { result ≡ place_of self.now }
     {
         match self {
-            Refusal::MemoryReach(name) => memory_place(*name),
-            Refusal::FixedHeaderBit(HeaderByte::Fm1) => 1,
-            Refusal::FixedHeaderBit(HeaderByte::Fm2) => 2,
+            Refusal::MemoryReach(name) => *name as usize,
+            Refusal::FixedHeaderBit(byte) => *byte as usize,
             Refusal::BlockLineCount(place)
             | Refusal::WrongLength(place)
             | Refusal::StrayWord(place)
@@ -76,13 +80,13 @@ impl Refusal {
     }
 }
 
-fn memory_place(name: MemoryName) -> usize
-    ensures { result ≡ place_of (Refusal.MemoryReach name) }
-{
-    match name {
-        MemoryName::Picture => 1,
-        MemoryName::Background => 2,
-        MemoryName::Line => 3,
-        MemoryName::Marks => 4,
+// The number and the place.
+impl fmt::Display for Refusal {
+    ghost output = { λ refusal. Some (decimal (number_of refusal) ++ (32 ∷ decimal (place_of refusal))) };
+
+    fn fmt<W: fmt::Write>(&self, f: &mut fmt::Formatter<W>) -> fmt::Result {
+        write!(f, "{} {}", self.number(), self.place())
     }
 }
+
+impl Error for Refusal {}

@@ -1,34 +1,29 @@
 // The writer of a block-line's record.
-ghost use Rattle.std.specs.Prelude.{◌≡◌, ◌*◌, ◌≤◌, true, map, length, take, Ok};
+ghost use Rattle.std.specs.Prelude.{◌≡◌, ◌-◌, ◌*◌, ◌≤◌, true, ◌∷◌, map, length, take, Ok};
 ghost use Rattle.std.specs.List.{range_with_len};
 ghost use Rattle.format.specs.Front.{front_length, still, stilled, front_written};
 ghost use Rattle.format.specs.Packing.{twos_field};
 ghost use Rattle.format.specs.Raster.{blocks, line_levels, record_length};
 ghost use Rattle.format.specs.RecordOver.{front_bytes};
-ghost use Rattle.format.specs.RecordWriting.{head_byte, word_number, words_bit, words_byte, record_bytes, in_range, Ranged, count_test, range_test, writable, held_after};
+ghost use Rattle.format.specs.RecordWriting.{word_number, words_bit, words_byte, record_bytes, in_range, Ranged, count_test, range_test, writable, held_after};
 ghost use Rattle.format.specs.Survival.{words_read, LevelBytes, Holds, RecordsReadBack, RecordBytesWrittenBack};
 ghost use Rattle.format.specs.Usable.{in_order};
 ghost use Rattle.std.specs.Result.{result_and};
 
 use crate::bits::BYTE_BITS;
 use crate::front::Front;
+use crate::order::in_order;
 use crate::packing::{byte_of, twos_field};
 use crate::raster::Raster;
 use crate::raster::measures::{BLOCK_LINE_LINES, FIRST_BLOCK, WORD_BITS};
 use crate::refusal::Refusal;
-use crate::words::{BlockWord, Head};
+use crate::words::{BlockWord, Head, VX_HALF, VY_HALF};
+use std::array;
 
 // How far vectors reach, to either side.
 const MOST_VX: u8 = 15;
 
 const MOST_VY: u8 = 7;
-
-// Half of the numbers of a field of five bits, of four bits, and of a byte.
-const HALF_VX: u8 = 16;
-
-const HALF_VY: u8 = 8;
-
-const HALF_LEVEL: u8 = 128;
 
 // What S and the lowest bit of vx count for in a word.
 const S_PLACE: u16 = 512;
@@ -39,21 +34,6 @@ const LAST_WORD_BIT: usize = 9;
 
 // No front has more words.
 const MOST_WORDS: usize = 28;
-// The word whose bits are all 0.
-const NO_WORD: BlockWord = BlockWord {
-    s: false,
-    vx: 0,
-    vy: 0,
-};
-
-// The head byte is QC1 QC2 IFM FRP 1 1 1 1.
-fn head_byte(head: Head) -> u8
-    ensures { result ≡ head_byte head }
-{
-    byte_of([
-        head.qc1, head.qc2, head.ifm, head.frp, true, true, true, true,
-    ])
-}
 
 // Whether a vector lies between −15 and 15, and −7 and 7.
 fn in_range(word: BlockWord) -> bool
@@ -67,44 +47,47 @@ fn word_number(word: BlockWord) -> u16
     requires { in_range word ≡ true }
     ensures { result ≡ word_number word }
 {
-    let vx = u16::from(twos_field(HALF_VX, word.vx));
-    let vy = u16::from(twos_field(HALF_VY, word.vy));
+    let vx = u16::from(twos_field(VX_HALF, word.vx));
+    let vy = u16::from(twos_field(VY_HALF, word.vy));
     S_PLACE * u16::from(word.s) + VX_PLACE * vx + vy
 }
 
-// Bit k of the words one after another. After the last word it is 0.
-fn words_bit(words: &[BlockWord], k: usize) -> bool
-    requires { Ranged words.now }
-    ensures { result ≡ words_bit words.now k }
-{
-    if k / WORD_BITS < words.len() {
-        (word_number(words[k / WORD_BITS]) >> (LAST_WORD_BIT - k % WORD_BITS)) % 2 == 1
-    } else {
-        false
-    }
+// Words whose vectors are in range.
+#[derive(Clone, Copy)]
+struct RangedWords<'a> {
+    words: &'a [BlockWord],
+    ghost ranged: { Ranged words.now },
 }
 
-// Byte i of the words.
-fn words_byte(words: &[BlockWord], i: usize) -> u8
-    requires ranged { Ranged words.now }
-    requires few { i ≤ 35 }
-    ensures { result ≡ words_byte words.now i }
-{
-    let mut byte: u8 = 0;
-    for k in BYTE_BITS * i..BYTE_BITS * i + BYTE_BITS {
-        byte = 2 * byte + u8::from(words_bit(words, k));
+impl<'a> RangedWords<'a> {
+    // Bit k of the words one after another. After the last word it is 0.
+    fn bit(&self, k: usize) -> bool
+        ensures { result ≡ words_bit self.now.words.now k }
+    {
+        match self.words.get(k / WORD_BITS) {
+            Some(word) => (word_number(*word) >> (LAST_WORD_BIT - k % WORD_BITS)) % 2 == 1,
+            None => false,
+        }
     }
-    byte
-}
 
-// Writes the words, and zero bits to the end of the last byte.
-fn write_words(words: &[BlockWord], bytes: &mut [u8])
-    requires ranged { Ranged words.now }
-    requires few { length bytes.old ≤ 35 }
-    ensures { bytes.new ≡ map (words_byte words.now) (range_with_len 0 (length bytes.old)) }
-{
-    for (i, byte) in bytes.iter_mut().enumerate() {
-        *byte = words_byte(words, i);
+    // Byte i of the words.
+    fn byte(&self, i: usize) -> u8
+        requires { i ≤ 35 }
+        ensures { result ≡ words_byte self.now.words.now i }
+    {
+        byte_of(array::from_fn(|j| self.bit(BYTE_BITS * i + j)))
+    }
+
+    // Writes a front: the head byte, and the words with zero bits to the end of the last byte.
+    fn write(&self, head: u8, front: &mut [u8])
+        requires some { 1 ≤ length front.old }
+        requires few { length front.old ≤ 36 }
+        ensures { front.new ≡ head ∷ map (words_byte self.now.words.now) (range_with_len 0 (length front.old - 1)) }
+    {
+        front[0] = head;
+        for (i, byte) in front[1..].iter_mut().enumerate() {
+            *byte = self.byte(i);
+        }
     }
 }
 
@@ -113,8 +96,8 @@ fn write_levels(levels: &[i8], bytes: &mut [u8])
     requires { length bytes.old ≡ length levels.now }
     ensures { bytes.new ≡ map (twos_field 128) levels.now }
 {
-    for (i, level) in levels.iter().enumerate() {
-        bytes[i] = twos_field(HALF_LEVEL, *level);
+    for (i, byte) in bytes.iter_mut().enumerate() {
+        *byte = levels[i].cast_unsigned();
     }
 }
 
@@ -122,13 +105,13 @@ fn write_levels(levels: &[i8], bytes: &mut [u8])
 fn still_words(front: Front<'_>) -> [BlockWord; MOST_WORDS]
     ensures { take (blocks front.entry.raster) result ≡ map still (words_read front.entry.raster (front_bytes front.entry)) }
 {
-    let mut words = [NO_WORD; MOST_WORDS];
-    let raster = front.raster();
-    for i in 0..raster.blocks() {
-        words[i] = BlockWord {
-            s: front.word_of(FIRST_BLOCK + i).s,
+    let mut words = [BlockWord::default(); MOST_WORDS];
+    let count = front.raster().blocks();
+    for (i, word) in words[..count].iter_mut().enumerate() {
+        *word = BlockWord {
             vx: 0,
             vy: 0,
+            ..front.word_of(FIRST_BLOCK + i)
         };
     }
     words
@@ -140,10 +123,11 @@ fn put_still(front: Front<'_>, buffer: &mut [u8])
     ensures { buffer.new ≡ stilled front.entry.raster (front_bytes front.entry) }
 {
     let words = still_words(front);
-    let raster = front.raster();
-    let count = raster.blocks();
-    buffer[0] = front.head_byte();
-    write_words(&words[0..count], &mut buffer[1..]);
+    let count = front.raster().blocks();
+    let words = RangedWords {
+        words: &words[..count],
+    };
+    words.write(front.head_byte(), buffer);
 }
 
 // Writes a front, under Stop with every vector 0.
@@ -192,25 +176,23 @@ fn vectors_fit(words: &[BlockWord]) -> Result<(), Refusal>
     requires { length words.now ≤ 28 }
     ensures { result ≡ in_order (range_test words.now) 2 (length words.now) }
 {
-    for (i, word) in words.iter().enumerate() {
-        if !in_range(*word) {
-            return Err(Refusal::VectorRange(FIRST_BLOCK + i));
+    in_order(FIRST_BLOCK, words.len(), |block| {
+        if !in_range(words[block - FIRST_BLOCK]) {
+            return Err(Refusal::VectorRange(block));
         }
-    }
-    Ok(())
+        Ok(())
+    })
 }
 
 // Writes a record: the head, the words and the levels.
-fn put_record(raster: Raster, head: Head, words: &[BlockWord], levels: &[i8], buffer: &mut [u8])
-    requires ranged { Ranged words.now }
+fn put_record(raster: Raster, head: Head, words: RangedWords<'_>, levels: &[i8], buffer: &mut [u8])
     requires levels { length levels.now ≡ 8 * line_levels raster }
     requires room { length buffer.old ≡ record_length raster }
-    ensures { buffer.new ≡ record_bytes raster head words.now levels.now }
+    ensures { buffer.new ≡ record_bytes raster head words.entry.words.now levels.now }
 {
-    let end = 1 + raster.word_bytes();
-    buffer[0] = head_byte(head);
-    write_words(words, &mut buffer[1..end]);
-    write_levels(levels, &mut buffer[end..]);
+    let (front, behind) = buffer.split_at_mut(raster.front_length());
+    words.write(u8::from(head), front);
+    write_levels(levels, behind);
 }
 
 // Writes the record of a block-line into a buffer of its length. The words are those of the blocks 2 to
@@ -230,7 +212,7 @@ pub fn write_record(
     count_fits(BLOCK_LINE_LINES * raster.line_levels(), levels.len())?;
     count_fits(raster.record_length(), buffer.len())?;
     vectors_fit(words)?;
-    put_record(raster, head, words, levels, buffer);
+    put_record(raster, head, RangedWords { words }, levels, buffer);
     Ok(())
 }
 

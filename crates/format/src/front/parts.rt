@@ -9,20 +9,16 @@ use crate::bits::{field, stream_bit, twos_complement};
 use crate::front::Front;
 use crate::raster::Raster;
 use crate::raster::measures::{FIRST_BLOCK, WORD_BITS};
-use crate::words::{BlockWord, Head, head_in};
+use crate::words::{BlockWord, Head, VX_HALF, VY_HALF, head_in};
 
-// The fields of a block word: S in one bit, then vx and vy. Half of a vector's numbers are below 0.
+// The fields of a block word: S in one bit, then vx and vy.
 const VX_START: usize = 1;
 
 const VX_BITS: usize = 5;
 
-const VX_HALF: u8 = 16;
-
 const VY_START: usize = VX_START + VX_BITS;
 
 const VY_BITS: usize = 4;
-
-const VY_HALF: u8 = 8;
 
 // The last four bits of the head byte, all 1, and how many values they have.
 const HEAD_MARK: u8 = 15;
@@ -30,6 +26,7 @@ const HEAD_MARK: u8 = 15;
 const HEAD_MARKS: u8 = 16;
 
 // The word whose ten bits begin at a bit of the words' bytes.
+#[tactic(auto, unfolding(crate::specs::Record::word_of))]
 fn word_from(words: &[u8], start: usize) -> BlockWord
     requires near { start ≤ 270 }
     requires within { start + 10 ≤ 8 * length words.now }
@@ -83,10 +80,11 @@ impl<'a> Front<'a> {
         ensures value { result.now ≡ words_in self.now.raster (front_bytes self.now) }
         ensures len { length result.now ≡ word_bytes self.now.raster }
     {
-        &self.bytes[1..1 + self.raster.word_bytes()]
+        &self.bytes[1..self.raster.front_length()]
     }
 
     // The word of a block that has one.
+    #[tactic(auto, unfolding(crate::specs::Record::word_in))]
     pub(crate) fn word_of(&self, block: usize) -> BlockWord
         requires { has_word self.now.raster block ≡ true }
         ensures { result ≡ word_in self.now.raster (front_bytes self.now) block }
@@ -98,7 +96,8 @@ impl<'a> Front<'a> {
     pub fn word(&self, block: usize) -> Option<BlockWord>
         ensures { result ≡ word_at self.now.raster (front_bytes self.now) block }
     {
-        if block >= FIRST_BLOCK && block <= self.raster.blocks() + 1 {
+        let blocks = FIRST_BLOCK..=self.raster.blocks() + 1;
+        if blocks.contains(&block) {
             Some(self.word_of(block))
         } else {
             None

@@ -8,6 +8,7 @@ ghost use Rattle.std.specs.Result.{result_and};
 
 use crate::bits::{BYTE_BITS, field};
 use crate::front::Front;
+use crate::order::in_order;
 use crate::raster::Raster;
 use crate::raster::measures::{FIRST_BLOCK, WORD_BITS};
 use crate::refusal::Refusal;
@@ -30,8 +31,7 @@ fn forced_repeat(head: Head) -> bool
 fn stray_word(sbc: bool, head: Head, word: BlockWord) -> bool
     ensures { result ≡ stray_word sbc head word }
 {
-    let zero = !word.s && word.vx == 0 && word.vy == 0;
-    (word.s && !sbc) || (!head.frp && !zero)
+    (word.s && !sbc) || (!head.frp && word != BlockWord::default())
 }
 
 // Whether a vector is out of range.
@@ -47,12 +47,12 @@ impl<'a> Front<'a> {
         ensures { result ≡ words_test self.now.raster sbc (front_bytes self.now) }
     {
         let head = self.head();
-        for block in FIRST_BLOCK..FIRST_BLOCK + self.raster.blocks() {
+        in_order(FIRST_BLOCK, self.raster.blocks(), |block| {
             if stray_word(sbc, head, self.word_of(block)) {
                 return Err(Refusal::StrayWord(block));
             }
-        }
-        Ok(())
+            Ok(())
+        })
     }
 
     // Refuses a bit that is not 0 after the words, to the end of their last byte.
@@ -71,12 +71,12 @@ impl<'a> Front<'a> {
     pub(crate) fn vectors_fit(&self) -> Result<(), Refusal>
         ensures { result ≡ vectors_test self.now.raster (front_bytes self.now) }
     {
-        for block in FIRST_BLOCK..FIRST_BLOCK + self.raster.blocks() {
+        in_order(FIRST_BLOCK, self.raster.blocks(), |block| {
             if bad_vector(self.word_of(block)) {
                 return Err(Refusal::VectorRange(block));
             }
-        }
-        Ok(())
+            Ok(())
+        })
     }
 
     // Gives the first refusal that applies to the front, under a frame's SBC.

@@ -39,13 +39,10 @@ impl Raster {
     pub fn new(colour: usize, luminance: usize, block_lines: usize) -> Result<Raster, Refusal>
         ensures { Opens colour luminance block_lines result }
     {
-        if colour < 1 || colour > MOST_COLOUR_BLOCKS {
-            return Err(Refusal::RasterLimits);
-        }
-        if luminance < 1 || luminance > MOST_LUMINANCE_BLOCKS {
-            return Err(Refusal::RasterLimits);
-        }
-        if block_lines < 1 || block_lines > MOST_BLOCK_LINES {
+        let within = (1..=MOST_COLOUR_BLOCKS).contains(&colour)
+            && (1..=MOST_LUMINANCE_BLOCKS).contains(&luminance)
+            && (1..=MOST_BLOCK_LINES).contains(&block_lines);
+        if !within {
             return Err(Refusal::RasterLimits);
         }
         Ok(Raster {
@@ -110,6 +107,7 @@ impl Raster {
     }
 
     // The pels of a line.
+    #[tactic(auto, unfolding(crate::specs::Raster::width))]
     pub fn width(&self) -> usize
         ensures value { result ≡ width self.now }
         ensures low_bound { 39 ≤ result }
@@ -128,6 +126,7 @@ impl Raster {
     }
 
     // The pels of a frame.
+    #[tactic(auto, unfolding(crate::specs::Raster::frame))]
     pub fn frame(&self) -> usize
         ensures value { result ≡ frame self.now }
         ensures low_bound { 29 * width self.now ≤ result }
@@ -137,6 +136,7 @@ impl Raster {
     }
 
     // What the picture memory and the background memory have to hold.
+    #[tactic(auto, unfolding(crate::specs::Raster::picture_reach))]
     pub fn picture_reach(&self) -> usize
         ensures value { result ≡ picture_reach self.now }
         ensures bound { result ≤ 242075 }
@@ -145,6 +145,7 @@ impl Raster {
     }
 
     // What the line memory has to hold.
+    #[tactic(auto, unfolding(crate::specs::Raster::line_reach))]
     pub fn line_reach(&self) -> usize
         ensures value { result ≡ line_reach self.now }
         ensures bound { result ≤ 910 }
@@ -153,6 +154,7 @@ impl Raster {
     }
 
     // What the mark memory has to hold.
+    #[tactic(auto, unfolding(crate::specs::Raster::mark_reach))]
     pub fn mark_reach(&self) -> usize
         ensures value { result ≡ mark_reach self.now }
         ensures bound { result ≤ 456 }
@@ -185,10 +187,11 @@ impl Raster {
     }
 
     // The bytes of a block-line's record.
+    #[tactic(auto, unfolding(crate::specs::Raster::record_length))]
     pub fn record_length(&self) -> usize
         ensures value { result ≡ record_length self.now }
         ensures bound { result ≤ 3652 }
     {
-        1 + self.word_bytes() + BLOCK_LINE_LINES * self.line_levels()
+        self.front_length() + BLOCK_LINE_LINES * self.line_levels()
     }
 }

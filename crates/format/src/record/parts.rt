@@ -1,7 +1,7 @@
 // The parts of a record: its front and its levels.
 ghost use Rattle.std.specs.Prelude.{◌≡◌, true, length};
-ghost use Rattle.format.specs.Raster.{word_bytes, line_levels, record_length};
-ghost use Rattle.format.specs.Record.{head_in, head_marked, words_in, word_in, has_word, word_at, line_in, has_line, LevelsAt};
+ghost use Rattle.format.specs.Raster.{line_levels, record_length};
+ghost use Rattle.format.specs.Record.{head_in, word_in, has_word, word_at, line_in, has_line, LevelsAt};
 ghost use Rattle.format.specs.RecordOver.{bytes_of, front_bytes};
 
 use crate::front::Front;
@@ -20,13 +20,8 @@ impl<'a> Record<'a> {
         Record { raster, bytes }
     }
 
-    pub fn raster(&self) -> Raster
-        ensures { result ≡ self.now.raster }
-    {
-        self.raster
-    }
-
     // The front, with which the record begins.
+    #[tactic(auto, using(crate::proofs::RasterLaws::record_length_is))]
     pub fn front(&self) -> Front<'a>
         ensures at { result.raster ≡ self.now.raster }
         ensures stands_over { front_bytes result ≡ bytes_of self.now }
@@ -38,21 +33,6 @@ impl<'a> Record<'a> {
         ensures { result ≡ head_in (bytes_of self.now) }
     {
         self.front().head()
-    }
-
-    // Whether the last four bits of the head are all 1.
-    pub fn head_marked(&self) -> bool
-        ensures { result ≡ head_marked (bytes_of self.now) }
-    {
-        self.front().head_marked()
-    }
-
-    // The bytes of the block words.
-    pub(crate) fn words(&self) -> &'a [u8]
-        ensures value { result.now ≡ words_in self.now.raster (bytes_of self.now) }
-        ensures len { length result.now ≡ word_bytes self.now.raster }
-    {
-        self.front().words()
     }
 
     // The word of a block that has one.
@@ -71,13 +51,14 @@ impl<'a> Record<'a> {
     }
 
     // The level bytes of a line that has them.
+    #[tactic(auto, unfolding(crate::specs::Record::line_in))]
     pub(crate) fn line(&self, line: usize) -> &'a [u8]
         requires { has_line line ≡ true }
         ensures value { result.now ≡ line_in self.now.raster (bytes_of self.now) line }
         ensures len { length result.now ≡ line_levels self.now.raster }
     {
         let count = self.raster.line_levels();
-        let start = 1 + self.raster.word_bytes() + (line - 1) * count;
+        let start = self.raster.front_length() + (line - 1) * count;
         &self.bytes[start..start + count]
     }
 
@@ -85,7 +66,7 @@ impl<'a> Record<'a> {
     pub fn levels(&self, line: usize) -> Option<Levels<'a>>
         ensures { LevelsAt self.now.raster (bytes_of self.now) line result }
     {
-        if line >= 1 && line <= BLOCK_LINE_LINES {
+        if (1..=BLOCK_LINE_LINES).contains(&line) {
             Some(Levels {
                 line,
                 bytes: self.line(line),

@@ -1,14 +1,16 @@
 // Whether a record is usable: the tests of its front and its levels.
-ghost use Rattle.std.specs.Prelude.{◌≡◌, ◌-◌, ◌≤◌, true, length, if◌then◌else◌, Ok};
+ghost use Rattle.std.specs.Prelude.{◌≡◌, ◌-◌, ◌≤◌, true, length, if◌then◌else◌, unsigned_abs, Ok};
+ghost use Rattle.format.specs.Bits.{level_of};
 ghost use Rattle.format.specs.Modes.{block_of};
 ghost use Rattle.format.specs.Raster.{width};
 ghost use Rattle.format.specs.Record.{has_line};
 ghost use Rattle.format.specs.RecordOver.{bytes_of};
-ghost use Rattle.format.specs.Usable.{words_test, fill_test, vectors_test, thinned, bad_level, Largest, AllWithin, line_test, levels_test, front_usable, usable};
+ghost use Rattle.format.specs.Usable.{thinned, Largest, AllWithin, line_test, levels_test, usable};
 ghost use Rattle.format.specs.Sound.{Sound};
 
 use crate::bits::signed;
 use crate::modes::{block_of, omits, subsamples};
+use crate::order::in_order;
 use crate::raster::measures::{BLOCK_LINE_LINES, BLOCK_PELS, FIRST_PEL};
 use crate::record::Record;
 use crate::refusal::Refusal;
@@ -19,11 +21,11 @@ const MOST_LEVELS: usize = 452;
 // A block begins at each pel whose number leaves this remainder by the pels of a block.
 const BLOCK_START: usize = 8;
 
-// Whether a level is beyond the top, or not 0 on an omitted pel.
-fn bad_level(top: u8, omitted: bool, level: i8) -> bool
-    ensures { result ≡ bad_level top omitted level }
+// How large the level in a byte is, below 0 or above.
+fn level_size(byte: u8) -> u8
+    ensures { result ≡ unsigned_abs (level_of byte) }
 {
-    level.unsigned_abs() > top || (omitted && level != 0)
+    signed(byte).unsigned_abs()
 }
 
 // How large a level may be: 0 on an omitted pel, otherwise the top.
@@ -40,72 +42,102 @@ fn all_within(levels: &[u8], largest: &[u8]) -> bool
     ensures otherwise { AllWithin levels.now largest.now → result ≡ true }
 {
     let mut within = true;
-    for (i, byte) in levels.iter().enumerate() {
-        within = within & (signed(*byte).unsigned_abs() <= largest[i]);
+    for (byte, most) in levels.iter().zip(largest) {
+        within = within & (level_size(*byte) <= *most);
     }
     within
 }
 
-impl<'a> Record<'a> {
+// The test of the levels of one line, under a frame's SBC and the top of its levels.
+#[derive(Clone, Copy)]
+struct LineTest<'a> {
+    record: Record<'a>,
+    sbc: bool,
+    top: u8,
+    line: usize,
+    ghost has: { has_line line ≡ true },
+}
+
+impl<'a> LineTest<'a> {
     // Whether the block of a pel is subsampled, given whether that of the pel before is. A block's word is
     // read where the block begins.
-    fn thinned_at(&self, sbc: bool, before: bool, pel: usize) -> bool
+    #[tactic(auto, using(crate::proofs::Verdicts::thinned_past_burst, crate::proofs::RasterLaws::width_is))]
+    fn thinned_at(&self, before: bool, pel: usize) -> bool
         requires low { 4 ≤ pel }
-        requires within { pel ≤ width self.now.raster }
-        requires known { before ≡ thinned self.now.raster sbc (bytes_of self.now) (block_of (pel - 1)) }
-        ensures { result ≡ thinned self.now.raster sbc (bytes_of self.now) (block_of pel) }
+        requires within { pel ≤ width self.now.record.raster }
+        requires known { before ≡ thinned self.now.record.raster self.now.sbc (bytes_of self.now.record) (block_of (pel - 1)) }
+        ensures { result ≡ thinned self.now.record.raster self.now.sbc (bytes_of self.now.record) (block_of pel) }
     {
         if pel % BLOCK_PELS == BLOCK_START {
-            subsamples(sbc, self.head(), self.word_of(block_of(pel)))
+            subsamples(
+                self.sbc,
+                self.record.head(),
+                self.record.word_of(block_of(pel)),
+            )
         } else {
             before
         }
     }
 
-    // Refuses the first level of a line that does not fit.
-    fn line_fits(&self, sbc: bool, top: u8, line: usize) -> Result<(), Refusal>
-        requires { has_line line ≡ true }
-        ensures { result ≡ line_test self.now.raster sbc top (bytes_of self.now) line }
+    // How large each level may be.
+    fn largest_levels(&self) -> [u8; MOST_LEVELS]
+        ensures { Largest self.now.record.raster self.now.sbc self.now.top (bytes_of self.now.record) self.now.line result }
     {
-        let head = self.head();
-        let place = (line - 1) * self.raster.width();
-        let mut thinned = false;
-        for (i, byte) in self.line(line).iter().enumerate() {
-            let pel = i + FIRST_PEL;
-            thinned = self.thinned_at(sbc, thinned, pel);
-            if bad_level(top, omits(head, thinned, line, pel), signed(*byte)) {
-                return Err(Refusal::LevelValue(place + pel));
-            }
-        }
-        Ok(())
-    }
-
-    // How large each level of a line may be.
-    fn largest_levels(&self, sbc: bool, top: u8, line: usize) -> [u8; MOST_LEVELS]
-        ensures { Largest self.now.raster sbc top (bytes_of self.now) line result }
-    {
-        let head = self.head();
+        let head = self.record.head();
+        let count = self.record.raster.line_levels();
         let mut largest = [0; MOST_LEVELS];
         let mut thinned = false;
-        for i in 0..self.raster.line_levels() {
+        for (i, size) in largest[..count].iter_mut().enumerate() {
             let pel = i + FIRST_PEL;
-            thinned = self.thinned_at(sbc, thinned, pel);
-            largest[i] = largest_level(top, omits(head, thinned, line, pel));
+            thinned = self.thinned_at(thinned, pel);
+            *size = largest_level(self.top, omits(head, thinned, self.line, pel));
         }
         largest
     }
 
-    // Tests the levels of a line, given how large each may be. A fault is looked for where there is one.
-    fn line_tested(&self, sbc: bool, top: u8, line: usize, largest: &[u8]) -> Result<(), Refusal>
-        requires has { has_line line ≡ true }
-        requires long { 452 ≤ length largest.now }
-        requires known { Largest self.now.raster sbc top (bytes_of self.now) line largest.now }
-        ensures { result ≡ line_test self.now.raster sbc top (bytes_of self.now) line }
+    // Refuses the first level that is larger than it may be.
+    fn first_fault(&self, largest: &[u8; MOST_LEVELS]) -> Result<(), Refusal>
+        requires { Largest self.now.record.raster self.now.sbc self.now.top (bytes_of self.now.record) self.now.line largest.now }
+        ensures { result ≡ line_test self.now.record.raster self.now.sbc self.now.top (bytes_of self.now.record) self.now.line }
     {
-        if all_within(self.line(line), largest) {
+        let levels = self.record.line(self.line);
+        let place = (self.line - 1) * self.record.raster.width();
+        in_order(FIRST_PEL, levels.len(), |pel| {
+            let i = pel - FIRST_PEL;
+            if level_size(levels[i]) > largest[i] {
+                return Err(Refusal::LevelValue(place + pel));
+            }
+            Ok(())
+        })
+    }
+
+    // Tests the levels, given how large each may be. A fault is looked for where there is one.
+    #[tactic(auto, using(crate::proofs::RasterLaws::width_is))]
+    fn fits(&self, largest: &[u8; MOST_LEVELS]) -> Result<(), Refusal>
+        requires { Largest self.now.record.raster self.now.sbc self.now.top (bytes_of self.now.record) self.now.line largest.now }
+        ensures { result ≡ line_test self.now.record.raster self.now.sbc self.now.top (bytes_of self.now.record) self.now.line }
+    {
+        if all_within(self.record.line(self.line), largest) {
             Ok(())
         } else {
-            self.line_fits(sbc, top, line)
+            self.first_fault(largest)
+        }
+    }
+}
+
+impl<'a> Record<'a> {
+    // The test of a line that has levels.
+    fn line_test(&self, sbc: bool, top: u8, line: usize) -> LineTest<'a>
+        requires { has_line line ≡ true }
+        ensures over { result.record ≡ self.now }
+        ensures modes { (result.sbc ≡ sbc) × (result.top ≡ top) }
+        ensures at { result.line ≡ line }
+    {
+        LineTest {
+            record: *self,
+            sbc,
+            top,
+            line,
         }
     }
 
@@ -114,41 +146,12 @@ impl<'a> Record<'a> {
     fn levels_fit(&self, sbc: bool, top: u8) -> Result<(), Refusal>
         ensures { result ≡ levels_test self.now.raster sbc top (bytes_of self.now) }
     {
-        let odd = self.largest_levels(sbc, top, 1);
-        let even = self.largest_levels(sbc, top, 2);
-        for i in 0..BLOCK_LINE_LINES / 2 {
-            self.line_tested(sbc, top, 2 * i + 1, &odd)?;
-            self.line_tested(sbc, top, 2 * i + 2, &even)?;
-        }
-        Ok(())
-    }
-
-    // Refuses the first block whose word is stray.
-    fn words_fit(&self, sbc: bool) -> Result<(), Refusal>
-        ensures { result ≡ words_test self.now.raster sbc (bytes_of self.now) }
-    {
-        self.front().words_fit(sbc)
-    }
-
-    // Refuses a bit that is not 0 after the words, to the end of their last byte.
-    fn fill_fits(&self) -> Result<(), Refusal>
-        ensures { result ≡ fill_test self.now.raster (bytes_of self.now) }
-    {
-        self.front().fill_fits()
-    }
-
-    // Refuses the first block whose vector is out of range.
-    fn vectors_fit(&self) -> Result<(), Refusal>
-        ensures { result ≡ vectors_test self.now.raster (bytes_of self.now) }
-    {
-        self.front().vectors_fit()
-    }
-
-    // Gives the first refusal that applies to the front.
-    fn front_fits(&self, sbc: bool) -> Result<(), Refusal>
-        ensures { result ≡ front_usable self.now.raster sbc (bytes_of self.now) }
-    {
-        self.front().usable(sbc)
+        let odd = self.line_test(sbc, top, 1).largest_levels();
+        let even = self.line_test(sbc, top, 2).largest_levels();
+        in_order(1, BLOCK_LINE_LINES, |line| {
+            let largest = if line % 2 == 1 { &odd } else { &even };
+            self.line_test(sbc, top, line).fits(largest)
+        })
     }
 
     // Gives the first refusal that applies to the record, under a frame's SBC and the top of its levels.
@@ -156,7 +159,7 @@ impl<'a> Record<'a> {
         ensures verdict { result ≡ usable self.now.raster sbc top (bytes_of self.now) }
         ensures sound { result ≡ Ok tt → Sound self.now.raster sbc top (bytes_of self.now) }
     {
-        self.front_fits(sbc)?;
+        self.front().usable(sbc)?;
         self.levels_fit(sbc, top)
     }
 }

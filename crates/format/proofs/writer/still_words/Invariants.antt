@@ -1,4 +1,4 @@
-use Rattle.std.proofs.Common.{◌≡◌, ℕ, ◌<◌, length, get_or}
+use Rattle.std.proofs.Common.{◌≡◌, ℕ, ◌<◌, get_or}
 use Rattle.format.specs.RecordOver.{front_bytes}
 use Rattle.format.specs.RecordWriting.{no_word}
 use Rattle.format.proofs.FrontLaws.{still_at}
@@ -6,4 +6,4 @@ use Rattle.format.proofs.writer.still_words.Given as goal
 
 -- each word so far has its vector 0
 abbrev pub invariant-loop-i : goal.invariant-loop-i
-invariant-loop-i l = (length l.words ≡ 28) × ((k : ℕ) → k < l.i → get_or l.words k no_word ≡ still_at l.front.raster (front_bytes l.front) k)
+invariant-loop-i l = (k : ℕ) → k < l.i → get_or l.word-items k no_word ≡ still_at l.front.raster (front_bytes l.front) k

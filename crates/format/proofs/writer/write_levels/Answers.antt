@@ -1,6 +1,5 @@
-use Rattle.std.proofs.Common.{◌≢◌, map, get_or, pos, sym, ap, ◌∙◌, arith, w8, SFits, rules, below_more}
+use Rattle.std.proofs.Common.{◌≡◌, ◌≢◌, map, get_or, pos, sym, ◌∙◌, arith, rules, below_more}
 use Rattle.std.proofs.lemmas.List.{get_or-set_same, get_or-set_other, get_or-map, length-map, ext_get_or}
-use Rattle.std.proofs.lemmas.Int.{to_z-of_z}
 use Rattle.format.specs.Packing.{twos_field}
 use Rattle.format.proofs.writer.write_levels.Goals as goal
 
@@ -8,14 +7,13 @@ pub loop-i-preserved : goal.loop-i-preserved
 loop-i-preserved c =
     let bytes = c.loop-i.bytes in
     let i = c.loop-i.i in
-    let byte = c.twos_field.result in
+    let byte = c.cast_unsigned.result in
     let level = get_or c.args.levels.now i (pos 0) in
-    let fits : SFits w8 level = search rules in
-    let read = ap (twos_field 128) (to_z-of_z w8 level fits) in
-    let place = get_or-map (twos_field 128) c.args.levels.now i (pos 0) 0 c.loop-i-test.true in
+    let written : byte ≡ twos_field 128 level = search rules in
+    let place = get_or-map (twos_field 128) c.args.levels.now i (pos 0) 0 (omega arith) in
     below_more _ _
     (λ k h. let other : k ≢ i = omega arith in get_or-set_other bytes i k byte 0 other ∙ c.loop-i.invariant k h)
-    (get_or-set_same bytes i byte 0 (omega arith) ∙ c.twos_field.ensures ∙ read ∙ sym place)
+    (get_or-set_same bytes i byte 0 (omega arith) ∙ written ∙ sym place)
 
 pub returns : goal.returns
 returns c =

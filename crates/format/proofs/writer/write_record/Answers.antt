@@ -6,10 +6,12 @@ use Rattle.format.proofs.writer.write_record.Goals as goal
 
 pub put_record-requires : goal.put_record-requires
 put_record-requires c = record {
-  ranged = ranged_passed c.args.words.now (sym c.in_ok-vectors_fit.ensures);
   levels = let n = count_passed (8 * c.line_levels.result) (length c.args.levels.now) (sym c.in_ok-count_fits-2.ensures) in omega arith;
   room = let n = count_passed c.record_length.result (length c.args.buffer.now) (sym c.in_ok-count_fits-3.ensures) in omega arith;
 }
+
+pub invariant_of-put_record : goal.invariant_of-put_record
+invariant_of-put_record c = record { ranged = ranged_passed c.args.words.now (sym c.in_ok-vectors_fit.ensures) }
 
 pub returns : goal.returns
 returns c =

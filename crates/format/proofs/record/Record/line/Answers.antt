@@ -1,6 +1,5 @@
 use Rattle.std.proofs.Common.{◌-◌, ◌≤◌, arith, rules}
 use Rattle.std.proofs.lemmas.Nat.{mul-le}
-use Rattle.format.specs.Record.{line_in}
 use Rattle.format.proofs.RasterLaws.{record_length_is}
 use Rattle.format.proofs.record.Record.line.Goals as goal
 
@@ -11,7 +10,3 @@ slice_bounds-result-end c =
     let before : c.args.line - 1 ≤ 7 = search rules in
     let rows = mul-le (c.args.line - 1) n 7 n before (omega arith) in
     omega arith
-
-pub returns : goal.returns
-unfolding line_in
-returns c = search rules
