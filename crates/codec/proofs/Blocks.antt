@@ -1,7 +1,6 @@
--- The blocks of a block-line, filled in one after another.
-use Rattle.std.proofs.Common.{◌≡◌, ℕ, ◌+◌, ◌<◌, Bool, List, length, get_or, set, sym, ap, ◌∙◌, arith}
+-- The blocks of a block-line, each made of its word.
+use Rattle.std.proofs.Common.{◌≡◌, ℕ, ◌+◌, ◌<◌, Bool, List, length, get_or, sym, ◌∙◌, arith}
 use Rattle.std.proofs.lemmas.List.FromFn.{length-map-range_with_len, get_or-map-range_with_len}
-use Rattle.std.proofs.lemmas.List.Edits.{fill_by_more}
 use Rattle.std.proofs.lemmas.List.{ext_get_or}
 use Rattle.format.specs.Record.{head_in, word_at}
 use Rattle.format.specs.declared.raster.Raster.{Raster}
@@ -14,14 +13,6 @@ module _ (g : Geometry) (raster : Raster) (sbc : Bool) (bytes : List ℕ) where
   abbrev pub of_block : ℕ → BlockModes
   of_block b = modes_of g sbc (head_in bytes) (word_at raster bytes b)
 
-  -- one block more
-  pub blocks_more : (xs : List BlockModes) (i : ℕ) (x : BlockModes) → i < length xs → x ≡ of_block (i + 1)
-      → ((k : ℕ) → k < i → get_or xs k burst_modes ≡ of_block (1 + k)) → (k : ℕ) → k < i + 1 → get_or (set xs i x) k burst_modes ≡ of_block (1 + k)
-  blocks_more xs i x h e before k l =
-      let same : x ≡ of_block (1 + i) = e ∙ ap of_block (omega arith) in
-      ap (λ y. get_or (set xs i y) k burst_modes) same ∙ fill_by_more (λ j. of_block (1 + j)) xs i burst_modes h before k l
-
-  -- all of them
   pub blocks_all : (xs : List BlockModes) → length xs ≡ most_blocks → ((k : ℕ) → k < most_blocks → get_or xs k burst_modes ≡ of_block (1 + k)) → xs ≡ blocks_of g raster sbc bytes
   unfolding blocks_of
   blocks_all xs n each =

@@ -1,15 +1,14 @@
 -- The lines of a block-line, coded and written one after another.
-use Rattle.std.proofs.Common.{◌≡◌, ℕ, suc, ◌+◌, ◌-◌, ◌*◌, ◌<◌, ◌≤◌, Bool, true, List, ◌++◌, length, take, drop, ℤ, Ok, sym, ap, ◌∙◌, suc-mul, arith}
+use Rattle.std.proofs.Common.{◌≡◌, ℕ, suc, ◌+◌, ◌-◌, ◌*◌, ◌<◌, ◌≤◌, Bool, List, ◌++◌, length, take, drop, ℤ, Ok, sym, ap, ◌∙◌, suc-mul, arith}
 use borrow.Rule.Slice.PartMut.{put_mid, post_of}
 use Rattle.std.specs.Result.{result_and}
 use Rattle.std.specs.List.{between}
 use Rattle.std.proofs.lemmas.Nat.{mul-le}
-use Rattle.std.proofs.lemmas.List.{append_assoc, append-nil, length-append, length-drop, length-take-le, take_at, take-append-drop}
-use Rattle.std.proofs.lemmas.Bool.{eq-eqb}
+use Rattle.std.proofs.lemmas.List.{append_assoc, append-nil, length-take-le, take_at, take-append-drop}
 use Rattle.std.proofs.lemmas.Slice.{take-put_mid}
 use Rattle.format.specs.Front.{front_length}
 use Rattle.format.specs.Raster.{width, line_levels, record_length}
-use Rattle.format.specs.Record.{head_in, is_whole}
+use Rattle.format.specs.Record.{head_in}
 use Rattle.format.specs.RecordWriting.{count_test, held_after}
 use Rattle.format.specs.Usable.{Verdict}
 use Rattle.format.specs.declared.header.Header.{Header}
@@ -151,13 +150,6 @@ module _ (r : Raster) (buffer : List ℕ) (first : ℕ) (at : first ≡ front_le
   front_room = length-take-le (first - 0) buffer (omega (arith, record_length_is r)) ∙ omega arith
 
   module _ (part : List ℕ) (long : length part ≡ front_length r) where
-    pub written_long : length (part ++ post_of 0 (first - 0) buffer) ≡ record_length r
-    written_long =
-        length-append part (post_of 0 (first - 0) buffer) ∙ omega (arith, length-drop (first - 0) buffer, record_length_is r)
-
-    pub written_room : front_length r ≤ length (part ++ post_of 0 (first - 0) buffer)
-    written_room = omega (arith, written_long, record_length_is r)
-
     pub written_front : take (front_length r) (part ++ post_of 0 (first - 0) buffer) ≡ part
     written_front = take_at part (post_of 0 (first - 0) buffer) (front_length r) long
 
@@ -167,12 +159,3 @@ pub front_passed : (r : Raster) (front part written after : List ℕ) (v : Verdi
 front_passed r front part written after v long room verdict held =
     let passes : v ≡ Ok tt = verdict ∙ ap (λ (x : Verdict). result_and x (count_test (front_length r) (length part))) (count_passes _ _ long) ∙ count_passes _ _ room in
     held ∙ ap (λ (x : Verdict). held_after x written part) passes
-
-pub whole_over : (r r' : Raster) (bytes bytes' : List ℕ) → r' ≡ r → bytes' ≡ bytes → length bytes ≡ record_length r → is_whole r' bytes' ≡ true
-whole_over r r' bytes bytes' er eb long =
-    eq-eqb (length bytes') (record_length r') (ap length eb ∙ long ∙ sym (ap record_length er))
-
-pub blocks_over : (g g' : Geometry) (r r' : Raster) (sbc : Bool) (bytes bytes' : List ℕ) → g' ≡ g → r' ≡ r → bytes' ≡ bytes
-    → blocks_of g' r' sbc bytes' ≡ blocks_of g r sbc bytes
-blocks_over g g' r r' sbc bytes bytes' eg er eb =
-    ap (λ (x : Geometry). blocks_of x r' sbc bytes') eg ∙ ap (λ (x : Raster). blocks_of g x sbc bytes') er ∙ ap (blocks_of g r sbc) eb

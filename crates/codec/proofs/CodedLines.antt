@@ -53,6 +53,3 @@ module _ (number : ℤ → ℤ) (stop : Bool) (g : Geometry) (k : BackgroundCont
   coded_decodes (z ∷ zs) p c =
       let b = block_at blocks p in
       coded_decodes zs (p + 1) (step g k l b p (value (level_at number stop g l b p z c.signal)) c)
-
-  pub code_same : (e : Coded) (ys zs : List ℤ) (c d : Course) → e ≡ from 4 ys c → ys ≡ zs → c ≡ d → e ≡ from 4 zs d
-  code_same e ys zs c d found same after = found ∙ ap (λ u. from 4 u c) same ∙ ap (from 4 zs) after

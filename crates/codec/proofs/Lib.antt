@@ -1,9 +1,9 @@
+pub mod Readings
 pub mod Lines
 pub mod Vectors
 pub mod Blocks
 pub mod BlockLines
-pub mod Errors
+pub mod Made
 pub mod CodedLines
 pub mod CodedRecords
 pub mod CodedBlocks
-pub mod Readings

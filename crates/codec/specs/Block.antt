@@ -8,9 +8,8 @@ use Rattle.format.specs.declared.header.Header.{Header}
 use Rattle.format.specs.declared.raster.Raster.{Raster}
 use Rattle.format.specs.declared.words.BlockWord.{BlockWord}
 use Rattle.format.specs.declared.words.Head.{Head}
-use Rattle.quantizer.specs.Choice.{chosen}
 use Rattle.quantizer.specs.declared.characteristic.Characteristic.{Characteristic}
-use Rattle.codec.specs.Line.{burst_modes, line_work, level_value}
+use Rattle.codec.specs.Line.{burst_modes, line_work, head_value}
 use Rattle.codec.specs.Step.{Course}
 use Rattle.prediction.specs.declared.marks.BackgroundControl.{BackgroundControl}
 use Rattle.codec.specs.declared.modes.Above.{Above}
@@ -82,7 +81,4 @@ block_line_work r h second above value bytes c = lines_from r h second above val
 
 -- what a level byte of a record stands for: its head chooses the characteristic
 abbrev pub record_value : (Characteristic → ℕ) → (Characteristic → ℤ → ℤ) → List ℕ → ℕ → ℤ
-record_value tops values bytes =
-    let head = head_in bytes in
-    let q = chosen head.qc1 head.qc2 in
-    level_value (tops q) (values q)
+record_value tops values bytes = head_value tops values (head_in bytes)

@@ -17,24 +17,15 @@ use Rattle.quantizer.specs.Choice.{chosen}
 use Rattle.quantizer.specs.declared.characteristic.Characteristic.{Characteristic}
 use Rattle.codec.specs.Block.{geometry_of, control_of, line_modes, blocks_of, record_value}
 use Rattle.codec.specs.Coding.{Coded, coded, code_line}
-use Rattle.codec.specs.Decoder.{Frame, reach_test, refused, begun, block_lines, above_next, between_fields, next_course, onward, finish}
+use Rattle.codec.specs.Decoder.{Idle, idle_of, Frame, frame_of, Finished, reach_test, refused, begun, block_lines, above_next, between_fields, next_course, onward, finish}
 use Rattle.codec.specs.Line.{resets}
 use Rattle.codec.specs.Signal.{Signal}
 use Rattle.codec.specs.Step.{Course, course}
-use Rattle.codec.specs.declared.coder.Finished.{Finished as CoderFinished}
-use Rattle.codec.specs.declared.coder.Idle.{Idle as CoderIdle}
-use Rattle.codec.specs.declared.coder.Open.{Open as CoderOpen}
-use Rattle.codec.specs.declared.decoder.Finished.{Finished}
-use Rattle.codec.specs.declared.decoder.Idle.{Idle}
-use Rattle.codec.specs.declared.decoder.Refused.{Refused}
+use Rattle.codec.specs.declared.coder.Coder.{Coder as CoderEnd}
+use Rattle.codec.specs.declared.end.Idle.{Idle as IdleEnd}
+use Rattle.codec.specs.declared.end.Open.{Open as OpenEnd}
+use Rattle.codec.specs.declared.end.Refused.{Refused}
 use Rattle.codec.specs.declared.modes.Above.{Above}
-
--- the states of a coder as their numbers, which are those of a decoder
-abbrev pub idle_of : CoderIdle → Idle
-idle_of e = record { raster = e.raster; parity = e.parity }
-
-abbrev pub coded_frame_of : CoderOpen → Frame
-coded_frame_of e = record { raster = e.raster; header = e.header; done = e.done; forced = e.forced; tally = e.tally }
 
 -- OPENING. The header begins with the parity of the frame before, and goes on with FM1, BC, FM2 and FC.
 abbrev pub header_written : Idle → ℕ → ℕ → ℕ → ℕ → List ℕ
@@ -56,8 +47,8 @@ opening_coded e fm1 bc fm2 fc buffer s =
     (result_and (reach_test e.raster s) (result_and (count_test header_length (length buffer)) (read_header written)))
 
 -- what an opening answered, with the states as their numbers
-abbrev pub opened_coding_as : Result CoderOpen (Refused CoderIdle) → Result Frame (Refused Idle)
-opened_coding_as (Ok e) = Ok (coded_frame_of e)
+abbrev pub opened_coding_as : Result (OpenEnd CoderEnd) (Refused (IdleEnd CoderEnd)) → Result Frame (Refused Idle)
+opened_coding_as (Ok e) = Ok (frame_of e)
 opened_coding_as (Err e) = Err (refused (idle_of e.end) e.refusal)
 
 -- BLOCK-LINE. The picture has the pels of the eight lines, line after line.
@@ -113,10 +104,6 @@ module _ (tops : Characteristic → ℕ) (values numbers : Characteristic → �
   abbrev pub block_line_coded : Frame → List ℕ → Bool → List ℤ → List ℕ → Signal → Result Frame (Refused Frame) × List ℕ × Signal
   block_line_coded f front stop picture buffer s = block_line_coded_on f front stop picture buffer s (coding_test f front picture buffer s)
 
-abbrev pub block_line_coded_as : Result CoderOpen (Refused CoderOpen) → Result Frame (Refused Frame)
-block_line_coded_as (Ok e) = Ok (coded_frame_of e)
-block_line_coded_as (Err e) = Err (refused (coded_frame_of e.end) e.refusal)
-
 -- FINISH. As at a decoder; it answers the end and the parity of the frame.
 abbrev pub with_parity : Result Finished (Refused Frame) → Result (Idle × ℕ) (Refused Frame)
 with_parity (Ok e) = Ok (e.end, e.parity)
@@ -124,7 +111,3 @@ with_parity (Err e) = Err e
 
 abbrev pub finish_coded : Frame → Signal → Result (Idle × ℕ) (Refused Frame) × Signal
 finish_coded f s = let e = finish f s in (with_parity e.0, e.1)
-
-abbrev pub finish_coded_as : Result CoderFinished (Refused CoderOpen) → Result (Idle × ℕ) (Refused Frame)
-finish_coded_as (Ok e) = Ok (idle_of e.end, e.parity)
-finish_coded_as (Err e) = Err (refused (coded_frame_of e.end) e.refusal)

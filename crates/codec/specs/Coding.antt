@@ -5,6 +5,9 @@ use Rattle.codec.specs.Line.{block_at, clamped_pels}
 use Rattle.codec.specs.Modes.{pel_mode, lag}
 use Rattle.codec.specs.Signal.{Signal, pel_at}
 use Rattle.codec.specs.Step.{Course, intraframe_at, around, step}
+use Rattle.format.specs.declared.words.Head.{Head}
+use Rattle.quantizer.specs.Choice.{chosen}
+use Rattle.quantizer.specs.declared.characteristic.Characteristic.{Characteristic}
 use Rattle.prediction.specs.declared.marks.BackgroundControl.{BackgroundControl}
 use Rattle.codec.specs.declared.modes.BlockModes.{BlockModes}
 use Rattle.codec.specs.declared.modes.Geometry.{Geometry}
@@ -81,3 +84,7 @@ coded levels c = record { levels = levels; after = c }
 -- a line of a block-line: the clamped pels, then the pels that have a level
 abbrev pub code_line : (ℤ → ℤ) → Bool → Geometry → BackgroundControl → LineModes → List BlockModes → (ℕ → ℤ) → List ℤ → Course → Coded
 code_line number stop g k l blocks value zs c = code_pels number stop g k l blocks value 4 (drop 3 zs) (clamped_pels g k l c)
+
+-- the number of an error in the characteristic that a head chooses
+abbrev pub head_number : (Characteristic → ℤ → ℤ) → Head → ℤ → ℤ
+head_number numbers head = numbers (chosen head.qc1 head.qc2)

@@ -18,14 +18,23 @@ use Rattle.codec.specs.Block.{geometry_of, control_of, line_is_forced, block_lin
 use Rattle.codec.specs.Line.{flush, resets}
 use Rattle.codec.specs.Signal.{Signal}
 use Rattle.codec.specs.Step.{Course, course}
-use Rattle.codec.specs.declared.decoder.Idle.{Idle}
-use Rattle.codec.specs.declared.decoder.Open.{Open}
+use Rattle.codec.specs.declared.decoder.Decoder.{Decoder as DecoderEnd}
 use Rattle.codec.specs.declared.decoder.Opened.{Opened}
-use Rattle.codec.specs.declared.decoder.Finished.{Finished}
-use Rattle.codec.specs.declared.decoder.Refused.{Refused}
+use Rattle.codec.specs.declared.end.Finished.{Finished as FinishedEnd}
+use Rattle.codec.specs.declared.end.Idle.{Idle as IdleEnd}
+use Rattle.codec.specs.declared.end.Open.{Open as OpenEnd}
+use Rattle.codec.specs.declared.end.Refused.{Refused}
 use Rattle.codec.specs.declared.modes.Above.{Above}
 use Rattle.codec.specs.declared.modes.Above.TheVariants.{Reset, Pending}
 use Rattle.codec.specs.declared.modes.Tally.{Tally}
+
+-- an end with no frame in hand: its raster, and the parity of its last frame
+pub record Idle : Type 0 where
+  pub raster : Raster
+  pub parity : ℕ
+
+abbrev pub idle_of : {E : Type 0} → IdleEnd E → Idle
+idle_of e = record { raster = e.raster; parity = e.parity }
 
 -- the frame in hand: how many of its block-lines are done, whether the pending line is forced, and what was counted
 pub record Frame : Type 0 where
@@ -35,7 +44,7 @@ pub record Frame : Type 0 where
   pub forced : Bool
   pub tally : Tally
 
-abbrev pub frame_of : Open → Frame
+abbrev pub frame_of : {E : Type 0} → OpenEnd E → Frame
 frame_of e = record { raster = e.raster; header = e.header; done = e.done; forced = e.forced; tally = e.tally }
 
 -- each memory reaches as far as the raster asks, in the order picture, background, line memory, marks
@@ -66,10 +75,10 @@ opened_on e s (Ok h) = (Ok (begun e.raster h, bit_xor h.parity e.parity), resets
 abbrev pub opening : Idle → List ℕ → Signal → Result (Frame × ℕ) (Refused Idle) × Signal
 opening e bytes s = opened_on e s (result_and (reach_test e.raster s) (read_header bytes))
 
--- what an opening answered, with the frame in hand as its numbers
-abbrev pub opened_as : Result Opened (Refused Idle) → Result (Frame × ℕ) (Refused Idle)
+-- what an opening answered, with the states as their numbers
+abbrev pub opened_as : Result Opened (Refused (IdleEnd DecoderEnd)) → Result (Frame × ℕ) (Refused Idle)
 opened_as (Ok o) = Ok (frame_of o.end, o.planes)
-opened_as (Err e) = Err e
+opened_as (Err e) = Err (refused (idle_of e.end) e.refusal)
 
 -- a frame has n block-lines in each field
 abbrev pub block_lines : Raster → ℕ
@@ -124,7 +133,7 @@ module _ (tops : Characteristic → ℕ) (values : Characteristic → ℤ → �
   block_line f bytes s = block_line_on f bytes s (record_test f bytes s)
 
 -- what a block-line answered, with the frame in hand as its numbers
-abbrev pub block_line_as : Result Open (Refused Open) → Result Frame (Refused Frame)
+abbrev pub block_line_as : {E : Type 0} → Result (OpenEnd E) (Refused (OpenEnd E)) → Result Frame (Refused Frame)
 block_line_as (Ok e) = Ok (frame_of e)
 block_line_as (Err e) = Err (refused (frame_of e.end) e.refusal)
 
@@ -137,6 +146,12 @@ finish_test f s =
 abbrev pub parity_of : Tally → ℕ
 parity_of t = bit_xor 255 t.planes
 
+-- an accepted finish: the end that is left, the parity and the number of held pels
+pub record Finished : Type 0 where
+  pub end : Idle
+  pub parity : ℕ
+  pub held : ℕ
+
 abbrev pub finish_on : Frame → Signal → Verdict → Result Finished (Refused Frame) × Signal
 finish_on f s (Err why) = (Err (refused f why), s)
 finish_on f s (Ok _) =
@@ -147,6 +162,6 @@ finish_on f s (Ok _) =
 abbrev pub finish : Frame → Signal → Result Finished (Refused Frame) × Signal
 finish f s = finish_on f s (finish_test f s)
 
-abbrev pub finish_as : Result Finished (Refused Open) → Result Finished (Refused Frame)
-finish_as (Ok e) = Ok e
+abbrev pub finish_as : {E : Type 0} → Result (FinishedEnd E) (Refused (OpenEnd E)) → Result Finished (Refused Frame)
+finish_as (Ok e) = Ok (record { end = idle_of e.end; parity = e.parity; held = e.held })
 finish_as (Err e) = Err (refused (frame_of e.end) e.refusal)

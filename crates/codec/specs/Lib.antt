@@ -8,3 +8,4 @@ pub mod Modes
 pub mod Signal
 pub mod Step
 pub mod Written
+pub mod Work

@@ -3,7 +3,10 @@ use Rattle.std.specs.Prelude.{ℕ, zero, suc, ◌+◌, ◌-◌, Bool, false, Lis
 use Rattle.std.specs.Option.{unwrap_or}
 use Rattle.format.specs.Bits.{level_of}
 use Rattle.format.specs.Modes.{block_of}
+use Rattle.format.specs.declared.words.Head.{Head}
+use Rattle.quantizer.specs.Choice.{chosen}
 use Rattle.quantizer.specs.Lawful.{within}
+use Rattle.quantizer.specs.declared.characteristic.Characteristic.{Characteristic}
 use Rattle.codec.specs.Modes.{pel_is_luminance}
 use Rattle.codec.specs.Signal.{Signal, with_reset}
 use Rattle.codec.specs.Step.{Course, step, settled, enter_y}
@@ -48,3 +51,7 @@ resets (suc n) s = resets n (with_reset s)
 -- the value of the level in a byte, in a characteristic of this top number and these values
 abbrev pub level_value : ℕ → (ℤ → ℤ) → ℕ → ℤ
 level_value top values x = unwrap_or (within top values (level_of x)) (pos 0)
+
+-- the value of the level in a byte, in the characteristic that a head chooses
+abbrev pub head_value : (Characteristic → ℕ) → (Characteristic → ℤ → ℤ) → Head → ℕ → ℤ
+head_value tops values head = let q = chosen head.qc1 head.qc2 in level_value (tops q) (values q)

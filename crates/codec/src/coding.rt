@@ -1,29 +1,25 @@
-// What a coder finds: the prepared picture, the level of a pel, and the levels of a line.
-ghost use Rattle.std.specs.Prelude.{◌≡◌, ◌+◌, ◌^◌, ◌<◌, ◌≤◌, length, ◌-ℤ◌};
-ghost use Rattle.codec.specs.Coding.{limited, prepared, prediction_from, prediction_as, is_coded, level_for, level_at, coded, code_pels, code_line};
-ghost use Rattle.codec.specs.Line.{level_value};
+// What a coder finds: the prepared picture, the level of a pel, and the levels of a line and of a block-line.
+ghost use Rattle.std.specs.Prelude.{◌≡◌, ◌+◌, ◌^◌, ◌<◌, ◌≤◌, length, take, ◌-ℤ◌};
+ghost use Rattle.codec.specs.Coder.{picture_length, code_lines};
+ghost use Rattle.codec.specs.Coding.{limited, prepared, prediction_from, is_coded, level_for, level_at, coded, code_pels, code_line};
+ghost use Rattle.codec.specs.Line.{block_at};
 ghost use Rattle.codec.specs.Step.{course, step};
-ghost use Rattle.codec.specs.Signal.{signal};
+ghost use Rattle.codec.specs.Work.{IsOver, modes_in, value_in, number_in};
+ghost use Rattle.codec.specs.Written.{before};
+ghost use Rattle.format.specs.Front.{front_length};
+ghost use Rattle.format.specs.Raster.{record_length};
 
-use crate::line::{block_at, level_value, work_clamped};
-use crate::memories::Memories;
-use crate::modes::{BlockModes, Geometry, LineModes, PelMode, Reading, Tally};
-use crate::pel::{enter_pel, pel_mode, reading, worked_from};
-use delay::memory::DelayMemory;
-use format::raster::measures::FIRST_PEL;
-use prediction::marks::{BackgroundControl, Marks};
+use crate::memories::EndMemories;
+use crate::modes::{BlockLine, FrameModes, LineWork, PelMode, Reading, Tally};
+use crate::pel::worked_from;
+use format::raster::measures::{BLOCK_LINE_LINES, BURST_PELS, FIRST_PEL, UNCODED_PELS};
 use prediction::rules::{byte, prediction};
-use quantizer::characteristic::Characteristic;
 use quantizer::set::CharacteristicSet;
 
 // The range of a picture pel.
 const LOWEST: i8 = -124;
 
 const HIGHEST: i8 = 123;
-// The last pel of the burst, which becomes 0.
-const BURST_END: usize = 7;
-// The clamped pels.
-const CLAMPED: usize = 3;
 
 // The level byte that was found for a pel, and what has been counted after it.
 #[derive(Clone, Copy)]
@@ -33,32 +29,14 @@ pub(crate) struct CodedPel {
 }
 
 // A picture pel limited to its range.
-pub(crate) fn limited(z: i8) -> i8
+fn limited(z: i8) -> i8
     ensures { result ≡ limited z }
 {
-    if z < LOWEST {
-        LOWEST
-    } else if z > HIGHEST {
-        HIGHEST
-    } else {
-        z
-    }
-}
-
-// A picture pel as it is coded: pels 1 to 3, pel 7 and the first luminance pel become 0.
-pub(crate) fn prepared(g: Geometry, pel: usize, z: i8) -> i8
-    requires { g.colour ≤ 1000 }
-    ensures { result ≡ prepared g pel z }
-{
-    if pel <= CLAMPED || pel == BURST_END || pel == g.colour + 1 {
-        0
-    } else {
-        limited(z)
-    }
+    z.clamp(LOWEST, HIGHEST)
 }
 
 // The prediction, from what a pel reads; a pel that is not coded has none.
-pub(crate) fn prediction_from(reading: Reading) -> i8
+fn prediction_from(reading: Reading) -> i8
     ensures { result ≡ prediction_from reading }
 {
     match reading {
@@ -69,220 +47,153 @@ pub(crate) fn prediction_from(reading: Reading) -> i8
     }
 }
 
-// The prediction of a pel, by how it is worked.
-pub(crate) fn prediction_as<P, B, L, K>(
-    m: &Memories<P, B, L, K>,
-    mode: PelMode,
-    g: Geometry,
-    line: LineModes,
-    block: BlockModes,
-    pel: usize,
-) -> i8
-where
-    P: DelayMemory<Element = i8>,
-    B: DelayMemory<Element = i8>,
-    L: DelayMemory<Element = i8>,
-    K: DelayMemory<Element = Marks>,
-    requires { g.width ≤ 1000 }
-    ensures { result ≡ prediction_as mode g line block pel (signal P.DelayMemory.held B.DelayMemory.held L.DelayMemory.held K.DelayMemory.held m.now) }
-{
-    prediction_from(reading(m, mode, g, line, block, pel))
-}
-
-// Whether a pel worked so is coded.
-pub(crate) fn is_coded(mode: PelMode) -> bool
-    ensures { result ≡ is_coded mode }
-{
-    match mode {
-        PelMode::Clamped | PelMode::Repeated | PelMode::Subsampled => false,
-        PelMode::Forced | PelMode::Burst | PelMode::Adaptive => true,
+impl PelMode {
+    // Whether a pel worked so is coded.
+    fn is_coded(self) -> bool
+        ensures { result ≡ is_coded self }
+    {
+        matches!(self, PelMode::Forced | PelMode::Burst | PelMode::Adaptive)
     }
 }
 
-// The number of the error of a pel, the pel minus its prediction.
-pub(crate) fn error_number<S: CharacteristicSet>(
-    set: &S,
-    q: Characteristic,
-    predicted: i8,
-    pel: i8,
-) -> i8
-    ensures { result ≡ S.CharacteristicSet.numbers set.now q (pel -ℤ predicted) }
-{
-    set.number(q, pel as i16 - predicted as i16).unwrap_or(0)
-}
-
-// The level of a pel: the number of its error, and 0 where no pel is coded or coding has stopped.
-pub(crate) fn level_for<S: CharacteristicSet>(
-    set: &S,
-    q: Characteristic,
-    stop: bool,
-    mode: PelMode,
-    predicted: i8,
-    pel: i8,
-) -> i8
-    ensures { result ≡ level_for (S.CharacteristicSet.numbers set.now q) stop mode predicted pel }
-{
-    if is_coded(mode) && !stop {
-        error_number(set, q, predicted, pel)
-    } else {
-        0
+impl FrameModes {
+    // A picture pel as it is coded: pels 1 to 3, pel 7 and the first luminance pel become 0.
+    fn prepared(self, pel: usize, z: i8) -> i8
+        ensures { result ≡ prepared self.g pel z }
+    {
+        if pel <= UNCODED_PELS || pel == BURST_PELS || pel == self.g.colour + 1 {
+            0
+        } else {
+            limited(z)
+        }
     }
 }
 
-// The level byte of a pel of a line, in a block.
-pub(crate) fn level_at<P, B, L, K, S>(
-    m: &Memories<P, B, L, K>,
-    set: &S,
-    q: Characteristic,
-    stop: bool,
-    g: Geometry,
-    line: LineModes,
-    block: BlockModes,
-    pel: usize,
-    z: i8,
-) -> u8
-where
-    P: DelayMemory<Element = i8>,
-    B: DelayMemory<Element = i8>,
-    L: DelayMemory<Element = i8>,
-    K: DelayMemory<Element = Marks>,
-    S: CharacteristicSet,
-    requires narrow { g.width ≤ 1000 }
-    requires colours { g.colour ≤ 1000 }
-    ensures { result ≡ level_at (S.CharacteristicSet.numbers set.now q) stop g line block pel z (signal P.DelayMemory.held B.DelayMemory.held L.DelayMemory.held K.DelayMemory.held m.now) }
-{
-    let mode = pel_mode(line, block.subsampled, pel);
-    let predicted = prediction_as(m, mode, g, line, block, pel);
-    byte(level_for(set, q, stop, mode, predicted, prepared(g, pel, z)))
-}
-
-// A pel of a line, in a block: its level is found and the pel enters, both from what it reads once.
-pub(crate) fn code_pel<P, B, L, K, S>(
-    m: &mut Memories<P, B, L, K>,
-    set: &S,
-    q: Characteristic,
-    stop: bool,
-    g: Geometry,
-    control: BackgroundControl,
-    line: LineModes,
-    block: BlockModes,
-    pel: usize,
-    z: i8,
-    tally: Tally,
-) -> CodedPel
-where
-    P: DelayMemory<Element = i8>,
-    B: DelayMemory<Element = i8>,
-    L: DelayMemory<Element = i8>,
-    K: DelayMemory<Element = Marks>,
-    S: CharacteristicSet,
-    requires narrow { g.width ≤ 1000 }
-    requires colours { g.colour ≤ 1000 }
-    requires few_held { tally.held < 2 ^ 63 }
-    ensures found { result.level ≡ level_at (S.CharacteristicSet.numbers set.now q) stop g line block pel z (signal P.DelayMemory.held B.DelayMemory.held L.DelayMemory.held K.DelayMemory.held m.old) }
-    ensures does { course (signal P.DelayMemory.held B.DelayMemory.held L.DelayMemory.held K.DelayMemory.held m.new) result.tally ≡ step g control line block pel (level_value (S.CharacteristicSet.tops set.now q) (S.CharacteristicSet.values set.now q) result.level) (course (signal P.DelayMemory.held B.DelayMemory.held L.DelayMemory.held K.DelayMemory.held m.old) tally) }
-    ensures few { result.tally.held ≤ tally.held + 1 }
-{
-    let mode = pel_mode(line, block.subsampled, pel);
-    let read = reading(m, mode, g, line, block, pel);
-    let found = level_for(
-        set,
-        q,
-        stop,
-        mode,
-        prediction_from(read),
-        prepared(g, pel, z),
-    );
-    let level = byte(found);
-    let x = worked_from(read, level_value(set, q, level));
-    CodedPel {
-        level,
-        tally: enter_pel(m, g, control, line, pel, x, tally),
+impl<S: CharacteristicSet> BlockLine<'_, S> {
+    // The number of the error of a pel, the pel minus its prediction.
+    fn error_number(&self, predicted: i8, pel: i8) -> i8
+        ensures { result ≡ number_in S.numbers self.now (pel -ℤ predicted) }
+    {
+        let error = i16::from(pel) - i16::from(predicted);
+        self.set.number(self.characteristic, error).unwrap_or(0)
     }
-}
 
-// The pels of a line that have a level: each level is found and written, and the memories move as a
-// decoder's given that level.
-pub(crate) fn code_levels<P, B, L, K, S>(
-    m: &mut Memories<P, B, L, K>,
-    set: &S,
-    q: Characteristic,
-    stop: bool,
-    g: Geometry,
-    control: BackgroundControl,
-    line: LineModes,
-    blocks: &[BlockModes],
-    picture: &[i8],
-    levels: &mut [u8],
-    tally: Tally,
-) -> Tally
-where
-    P: DelayMemory<Element = i8>,
-    B: DelayMemory<Element = i8>,
-    L: DelayMemory<Element = i8>,
-    K: DelayMemory<Element = Marks>,
-    S: CharacteristicSet,
-    requires narrow { g.width ≤ 1000 }
-    requires colours { g.colour ≤ 1000 }
-    requires few_held { tally.held < 2 ^ 62 }
-    requires short { length picture.now ≤ 900 }
-    requires as_long { length levels.old ≡ length picture.now }
-    ensures does { coded levels.new (course (signal P.DelayMemory.held B.DelayMemory.held L.DelayMemory.held K.DelayMemory.held m.new) result) ≡ code_pels (S.CharacteristicSet.numbers set.now q) stop g control line blocks.now (level_value (S.CharacteristicSet.tops set.now q) (S.CharacteristicSet.values set.now q)) 4 picture.now (course (signal P.DelayMemory.held B.DelayMemory.held L.DelayMemory.held K.DelayMemory.held m.old) tally) }
-    ensures few { result.held ≤ tally.held + length picture.now }
-{
-    let mut counted = tally;
-    for i in 0..picture.len() {
-        let pel = i + FIRST_PEL;
-        let block = block_at(blocks, pel);
-        let coded = code_pel(
-            m, set, q, stop, g, control, line, block, pel, picture[i], counted,
-        );
-        levels[i] = coded.level;
-        counted = coded.tally;
+    // The level of a pel: the number of its error, and 0 where no pel is coded or coding has stopped.
+    fn level_for(&self, stop: bool, mode: PelMode, predicted: i8, pel: i8) -> i8
+        ensures { result ≡ level_for (number_in S.numbers self.now) stop mode predicted pel }
+    {
+        if mode.is_coded() && !stop {
+            self.error_number(predicted, pel)
+        } else {
+            0
+        }
     }
-    counted
-}
 
-// A line of a block-line: the clamped pels, then the pels that have a level.
-pub(crate) fn code_line<P, B, L, K, S>(
-    m: &mut Memories<P, B, L, K>,
-    set: &S,
-    q: Characteristic,
-    stop: bool,
-    g: Geometry,
-    control: BackgroundControl,
-    line: LineModes,
-    blocks: &[BlockModes],
-    picture: &[i8],
-    levels: &mut [u8],
-    tally: Tally,
-) -> Tally
-where
-    P: DelayMemory<Element = i8>,
-    B: DelayMemory<Element = i8>,
-    L: DelayMemory<Element = i8>,
-    K: DelayMemory<Element = Marks>,
-    S: CharacteristicSet,
-    requires narrow { g.width ≤ 1000 }
-    requires colours { g.colour ≤ 1000 }
-    requires few_held { tally.held < 2 ^ 61 }
-    requires short { length picture.now ≤ 900 }
-    requires as_long { length levels.old + 3 ≡ length picture.now }
-    ensures does { coded levels.new (course (signal P.DelayMemory.held B.DelayMemory.held L.DelayMemory.held K.DelayMemory.held m.new) result) ≡ code_line (S.CharacteristicSet.numbers set.now q) stop g control line blocks.now (level_value (S.CharacteristicSet.tops set.now q) (S.CharacteristicSet.values set.now q)) picture.now (course (signal P.DelayMemory.held B.DelayMemory.held L.DelayMemory.held K.DelayMemory.held m.old) tally) }
-    ensures few { result.held ≤ tally.held + length picture.now }
-{
-    let clamped = work_clamped(m, g, control, line, tally);
-    code_levels(
-        m,
-        set,
-        q,
-        stop,
-        g,
-        control,
-        line,
-        blocks,
-        &picture[CLAMPED..],
-        levels,
-        clamped,
-    )
+    // A pel of a line: its level is found and the pel enters, both from what it reads once.
+    fn code_pel<M: EndMemories>(
+        &self,
+        m: &mut M,
+        stop: bool,
+        line: LineWork,
+        pel: usize,
+        z: i8,
+        tally: Tally,
+    ) -> CodedPel
+        requires few_held { tally.held < 2 ^ 63 }
+        ensures found { result.level ≡ level_at (number_in S.numbers self.now) stop line.frame.g line.modes (block_at self.now.blocks pel) pel z (M.signal m.old) }
+        ensures does { course (M.signal m.new) result.tally ≡ step line.frame.g line.frame.control line.modes (block_at self.now.blocks pel) pel (value_in S.tops S.values self.now result.level) (course (M.signal m.old) tally) }
+        ensures few { result.tally.held ≤ tally.held + 1 }
+    {
+        let block = self.block_at(pel);
+        let mode = line.modes.pel_mode(block.subsampled, pel);
+        let reading = line.reading(m, mode, block, pel);
+        let prepared = line.frame.prepared(pel, z);
+        let level = byte(self.level_for(stop, mode, prediction_from(reading), prepared));
+        let x = worked_from(reading, self.level_value(level));
+        CodedPel {
+            level,
+            tally: line.enter_pel(m, pel, x, tally),
+        }
+    }
+
+    // The pels of a line that have a level: each level is found and written, and the memories move as a
+    // decoder's given that level.
+    fn code_levels<M: EndMemories>(
+        &self,
+        m: &mut M,
+        stop: bool,
+        line: LineWork,
+        picture: &[i8],
+        levels: &mut [u8],
+        tally: Tally,
+    ) -> Tally
+        requires few_held { tally.held < 2 ^ 62 }
+        requires short { length picture.now ≤ 900 }
+        requires as_long { length levels.old ≡ length picture.now }
+        ensures does { coded levels.new (course (M.signal m.new) result) ≡ code_pels (number_in S.numbers self.now) stop line.frame.g line.frame.control line.modes self.now.blocks (value_in S.tops S.values self.now) 4 picture.now (course (M.signal m.old) tally) }
+        ensures few { result.held ≤ tally.held + length picture.now }
+    {
+        let mut counted = tally;
+        for (i, z) in picture.iter().enumerate() {
+            let coded = self.code_pel(m, stop, line, i + FIRST_PEL, *z, counted);
+            levels[i] = coded.level;
+            counted = coded.tally;
+        }
+        counted
+    }
+
+    // A line by its number: the clamped pels, then the pels that have a level.
+    fn code_line<M: EndMemories>(
+        &self,
+        m: &mut M,
+        stop: bool,
+        number: usize,
+        picture: &[i8],
+        levels: &mut [u8],
+        tally: Tally,
+    ) -> Tally
+        requires few_held { tally.held < 2 ^ 61 }
+        requires short { length picture.now ≤ 900 }
+        requires as_long { length levels.old + 3 ≡ length picture.now }
+        ensures does { coded levels.new (course (M.signal m.new) result) ≡ code_line (number_in S.numbers self.now) stop self.now.frame.g self.now.frame.control (modes_in self.now number) self.now.blocks (value_in S.tops S.values self.now) picture.now (course (M.signal m.old) tally) }
+        ensures few { result.held ≤ tally.held + length picture.now }
+    {
+        let line = self.line(number);
+        let clamped = line.work_clamped(m, tally);
+        self.code_levels(m, stop, line, &picture[UNCODED_PELS..], levels, clamped)
+    }
+
+    // The eight lines, whose front stands in the buffer: the levels are written behind it.
+    pub(crate) fn code<M: EndMemories>(
+        &self,
+        m: &mut M,
+        stop: bool,
+        picture: &[i8],
+        buffer: &mut [u8],
+        tally: Tally,
+    ) -> Tally
+        requires few_held { tally.held < 2 ^ 60 }
+        requires over { IsOver buffer.old self.now }
+        requires pels { length picture.now ≡ picture_length self.now.raster }
+        requires room { length buffer.old ≡ record_length self.now.raster }
+        ensures does { coded buffer.new (course (M.signal m.new) result) ≡ before (take (front_length self.now.raster) buffer.old) (code_lines (S.tops self.now.set.now) (S.values self.now.set.now) (S.numbers self.now.set.now) self.now.raster self.now.header self.now.second self.now.above (take (front_length self.now.raster) buffer.old) stop picture.now 1 8 (course (M.signal m.old) tally)) }
+        ensures few { result.held ≤ tally.held + 4000 }
+    {
+        let width = self.frame.g.width;
+        let count = self.raster.line_levels();
+        let mut counted = tally;
+        for i in 0..BLOCK_LINE_LINES {
+            let pel = i * width;
+            let place = self.raster.front_length() + i * count;
+            counted = self.code_line(
+                m,
+                stop,
+                i + 1,
+                &picture[pel..pel + width],
+                &mut buffer[place..place + count],
+                counted,
+            );
+        }
+        counted
+    }
 }

@@ -1,166 +1,52 @@
 // One pel: where it looks, what follows, what enters the memories.
 ghost use Rattle.std.specs.Prelude.{◌≡◌, ◌+◌, ◌-◌, ◌^◌, ◌<◌, ◌≤◌};
 ghost use Rattle.codec.specs.Modes.{pel_mode, pel_is_luminance, lag};
-ghost use Rattle.prediction.specs.Rules.{intraframe, repetition, uncoded, new_background};
-ghost use Rattle.codec.specs.Signal.{pel_at, marks_at, signal};
-ghost use Rattle.codec.specs.Step.{marks_around, around, reading_as, worked_from, worked, settled, enter_y, settle_above, enter_worked, enter_pel, step, course};
+ghost use Rattle.prediction.specs.Rules.{intraframe, repetition, new_background};
+ghost use Rattle.codec.specs.Signal.{pel_at};
+ghost use Rattle.codec.specs.Step.{marks_around, intraframe_at, around, reading_as, worked_from, worked, settled, enter_y, settle_above, enter_worked, enter_pel, step, course};
 
-use crate::memories::{Memories, marks_back, pel_back};
-use crate::modes::{Above, BlockModes, Geometry, LineModes, PelMode, Reading, Tally};
-use delay::memory::DelayMemory;
+use crate::memories::EndMemories;
+use crate::modes::{Above, BlockModes, FrameModes, LineModes, LineWork, PelMode, Reading, Tally};
 use format::modes::off_quincunx;
 use format::raster::measures::{BURST_PELS, UNCODED_PELS};
-use prediction::marks::{Around, BackgroundControl, Marks, MarksAround, Worked};
+use prediction::marks::{Around, Marks, MarksAround, Worked};
 use prediction::rules::{
     adaptive, burst, byte, forced, interpolation, new_background, repetition, skipped, uncoded,
 };
 
-// How a pel of a line is worked, in a block that is subsampled or not.
-pub(crate) fn pel_mode(line: LineModes, subsampled: bool, pel: usize) -> PelMode
-    ensures { result ≡ pel_mode line subsampled pel }
-{
-    if pel <= UNCODED_PELS {
-        PelMode::Clamped
-    } else if line.repeated {
-        PelMode::Repeated
-    } else if subsampled && off_quincunx(line.number, pel) {
-        PelMode::Subsampled
-    } else if line.forced {
-        PelMode::Forced
-    } else if pel <= BURST_PELS {
-        PelMode::Burst
-    } else {
-        PelMode::Adaptive
-    }
-}
-
-// How far picture and background lag behind the pel in work: by a line; but in the first line of a
-// field, where nothing enters them, by the pels of that line that were worked so far.
-pub(crate) fn lag(g: Geometry, above: Above, pel: usize) -> usize
-    ensures { result ≡ lag g above pel }
-{
-    match above {
-        Above::Reset => pel.saturating_sub(1),
-        Above::Pending { forced: _ } => g.width,
-    }
-}
-
-// The marks that the pel in work reads.
-pub(crate) fn marks_around<K: DelayMemory<Element = Marks>>(marks: &K, width: usize) -> MarksAround
-    requires { width ≤ 1000 }
-    ensures { result ≡ marks_around width (K.DelayMemory.held marks.now) }
-{
-    MarksAround {
-        before: marks_back(marks, 1),
-        second: marks_back(marks, 2),
-        right: marks_back(marks, width.saturating_sub(1)),
-        above: marks_back(marks, width),
-        left: marks_back(marks, width + 1),
+impl LineModes {
+    // How a pel of the line is worked, in a block that is subsampled or not.
+    pub(crate) fn pel_mode(self, subsampled: bool, pel: usize) -> PelMode
+        ensures { result ≡ pel_mode self subsampled pel }
+    {
+        if pel <= UNCODED_PELS {
+            PelMode::Clamped
+        } else if self.repeated {
+            PelMode::Repeated
+        } else if subsampled && off_quincunx(self.number, pel) {
+            PelMode::Subsampled
+        } else if self.forced {
+            PelMode::Forced
+        } else if pel <= BURST_PELS {
+            PelMode::Burst
+        } else {
+            PelMode::Adaptive
+        }
     }
 }
 
 // I at the pel in work, by the marks of the pel before.
-fn intraframe_by<L: DelayMemory<Element = i8>>(line: &L, before: Marks) -> i8
-    ensures { result ≡ intraframe (pel_at (L.DelayMemory.held line.now) 1) (pel_at (L.DelayMemory.held line.now) 2) before }
+fn intraframe_by<M: EndMemories>(m: &M, before: Marks) -> i8
+    ensures { result ≡ intraframe (pel_at (M.signal m.now).line 1) (pel_at (M.signal m.now).line 2) before }
 {
-    if before.omitted {
-        pel_back(line, 2)
-    } else {
-        pel_back(line, 1)
-    }
+    m.line_back(if before.omitted { 2 } else { 1 })
 }
 
 // I at the pel in work.
-pub(crate) fn intraframe_at<L, K>(line: &L, marks: &K) -> i8
-where
-    L: DelayMemory<Element = i8>,
-    K: DelayMemory<Element = Marks>,
-    ensures { result ≡ intraframe (pel_at (L.DelayMemory.held line.now) 1) (pel_at (L.DelayMemory.held line.now) 2) (marks_at (K.DelayMemory.held marks.now) 1) }
+fn intraframe_at<M: EndMemories>(m: &M) -> i8
+    ensures { result ≡ intraframe_at (M.signal m.now) }
 {
-    intraframe_by(line, marks_back(marks, 1))
-}
-
-// The values that a coded pel reads.
-pub(crate) fn around<P, B, L, K>(
-    m: &Memories<P, B, L, K>,
-    g: Geometry,
-    above: Above,
-    block: BlockModes,
-    pel: usize,
-) -> Around
-where
-    P: DelayMemory<Element = i8>,
-    B: DelayMemory<Element = i8>,
-    L: DelayMemory<Element = i8>,
-    K: DelayMemory<Element = Marks>,
-    requires narrow { g.width ≤ 1000 }
-    ensures { result ≡ around g above block pel (signal P.DelayMemory.held B.DelayMemory.held L.DelayMemory.held K.DelayMemory.held m.now) }
-{
-    let lag = lag(g, above, pel);
-    let marks = marks_around(&m.marks, g.width);
-    Around {
-        intraframe: intraframe_by(&m.line, marks.before),
-        moved: pel_back(&m.picture, block.delay.saturating_sub(lag)),
-        background: pel_back(&m.background, g.frame.saturating_sub(lag)),
-        marks,
-    }
-}
-
-// Y of a repeated pel.
-pub(crate) fn repetition_at<P: DelayMemory<Element = i8>>(
-    picture: &P,
-    g: Geometry,
-    line: LineModes,
-    pel: usize,
-) -> i8
-    ensures { result ≡ repetition (pel_is_luminance g pel) line.second (pel_at (P.DelayMemory.held picture.now) (g.near - lag g line.above pel)) (pel_at (P.DelayMemory.held picture.now) (g.far - lag g line.above pel)) }
-{
-    let lag = lag(g, line.above, pel);
-    let near = pel_back(picture, g.near.saturating_sub(lag));
-    let far = pel_back(picture, g.far.saturating_sub(lag));
-    repetition(pel > g.colour, line.second, near, far)
-}
-
-// A repeated pel.
-pub(crate) fn repeated<P: DelayMemory<Element = i8>>(
-    picture: &P,
-    g: Geometry,
-    line: LineModes,
-    pel: usize,
-) -> Worked
-    ensures { result ≡ uncoded (repetition (pel_is_luminance g pel) line.second (pel_at (P.DelayMemory.held picture.now) (g.near - lag g line.above pel)) (pel_at (P.DelayMemory.held picture.now) (g.far - lag g line.above pel))) }
-{
-    uncoded(repetition_at(picture, g, line, pel))
-}
-
-// What a pel reads: where it looks depends on how it is worked.
-pub(crate) fn reading<P, B, L, K>(
-    m: &Memories<P, B, L, K>,
-    mode: PelMode,
-    g: Geometry,
-    line: LineModes,
-    block: BlockModes,
-    pel: usize,
-) -> Reading
-where
-    P: DelayMemory<Element = i8>,
-    B: DelayMemory<Element = i8>,
-    L: DelayMemory<Element = i8>,
-    K: DelayMemory<Element = Marks>,
-    requires narrow { g.width ≤ 1000 }
-    ensures { result ≡ reading_as mode g line block pel (signal P.DelayMemory.held B.DelayMemory.held L.DelayMemory.held K.DelayMemory.held m.now) }
-{
-    match mode {
-        PelMode::Clamped => Reading::Uncoded(0),
-        PelMode::Repeated => Reading::Uncoded(repetition_at(&m.picture, g, line, pel)),
-        PelMode::Subsampled => Reading::Omitted,
-        PelMode::Forced => Reading::Intraframe(intraframe_at(&m.line, &m.marks)),
-        PelMode::Burst => {
-            let delay = g.frame.saturating_sub(lag(g, line.above, pel));
-            Reading::FrameBefore(pel_back(&m.picture, delay))
-        }
-        PelMode::Adaptive => Reading::Surroundings(around(m, g, line.above, block, pel)),
-    }
+    intraframe_by(m, m.marks_back(1))
 }
 
 // A pel as it is worked, from what it reads and the value of its level.
@@ -176,198 +62,213 @@ pub(crate) fn worked_from(reading: Reading, value: i8) -> Worked
     }
 }
 
-// A pel of a line, in a block, with the value of its level: where it looks depends on how it is worked.
-pub(crate) fn worked<P, B, L, K>(
-    m: &Memories<P, B, L, K>,
-    g: Geometry,
-    line: LineModes,
-    block: BlockModes,
-    pel: usize,
-    value: i8,
-) -> Worked
-where
-    P: DelayMemory<Element = i8>,
-    B: DelayMemory<Element = i8>,
-    L: DelayMemory<Element = i8>,
-    K: DelayMemory<Element = Marks>,
-    requires narrow { g.width ≤ 1000 }
-    ensures { result ≡ worked g line block pel value (signal P.DelayMemory.held B.DelayMemory.held L.DelayMemory.held K.DelayMemory.held m.now) }
+// A worked pel enters the line memory and its marks the mark memory; a held pel is counted.
+fn enter_worked<M: EndMemories>(m: &mut M, pel: Worked, tally: Tally) -> Tally
+    requires few_held { tally.held < 2 ^ 63 }
+    ensures { course (M.signal m.new) result ≡ enter_worked pel (course (M.signal m.old) tally) }
 {
-    let mode = pel_mode(line, block.subsampled, pel);
-    let read = reading(m, mode, g, line, block, pel);
-    worked_from(read, value)
-}
-
-// Y of a pel that lies d back in the line memory, with what stands below it.
-pub(crate) fn settled<L, K>(
-    line: &L,
-    marks: &K,
-    g: Geometry,
-    is_luminance: bool,
-    d: usize,
-    below: i8,
-) -> i8
-where
-    L: DelayMemory<Element = i8>,
-    K: DelayMemory<Element = Marks>,
-    requires narrow { g.width ≤ 1000 }
-    requires near { d ≤ 1000 }
-    ensures { result ≡ settled g is_luminance d below (L.DelayMemory.held line.now) (K.DelayMemory.held marks.now) }
-{
-    if marks_back(marks, d).omitted {
-        let left = pel_back(line, d + 1);
-        let right = pel_back(line, d.saturating_sub(1));
-        let above = pel_back(line, d + g.width);
-        interpolation(is_luminance, left, right, above, below)
-    } else {
-        pel_back(line, d)
-    }
-}
-
-// What the background becomes where Y enters the picture. Of Y and the background a frame before it reads
-// what counts: neither in a forced line or where BRC is 0, and Y only where BUC is 0.
-fn background_after<P, B>(
-    picture: &P,
-    background: &B,
-    frame: usize,
-    control: BackgroundControl,
-    is_forced: bool,
-    y: i8,
-) -> i8
-where
-    P: DelayMemory<Element = i8>,
-    B: DelayMemory<Element = i8>,
-    ensures { result ≡ new_background is_forced control y (pel_at (P.DelayMemory.held picture.now) frame) (pel_at (B.DelayMemory.held background.now) frame) }
-{
-    if is_forced || !control.brc {
-        return new_background(is_forced, control, y, 0, 0);
-    }
-    let b = pel_back(background, frame);
-    if control.buc {
-        return new_background(is_forced, control, y, 0, b);
-    }
-    new_background(is_forced, control, y, pel_back(picture, frame), b)
-}
-
-// Y enters the picture and the new background the background; Y is counted.
-pub(crate) fn enter_y<P, B, L, K>(
-    m: &mut Memories<P, B, L, K>,
-    g: Geometry,
-    control: BackgroundControl,
-    is_forced: bool,
-    y: i8,
-    tally: Tally,
-) -> Tally
-where
-    P: DelayMemory<Element = i8>,
-    B: DelayMemory<Element = i8>,
-    L: DelayMemory<Element = i8>,
-    K: DelayMemory<Element = Marks>,
-    ensures { course (signal P.DelayMemory.held B.DelayMemory.held L.DelayMemory.held K.DelayMemory.held m.new) result ≡ enter_y g control is_forced y (course (signal P.DelayMemory.held B.DelayMemory.held L.DelayMemory.held K.DelayMemory.held m.old) tally) }
-{
-    let b = background_after(&m.picture, &m.background, g.frame, control, is_forced, y);
-    m.picture.enter(y);
-    m.background.enter(b);
+    m.enter_worked(pel.x, pel.marks);
     Tally {
-        planes: tally.planes ^ byte(y),
-        held: tally.held,
+        held: tally.held + usize::from(pel.held),
+        ..tally
     }
 }
 
-// The pel above the one in work enters picture and background, with the pel in work below it.
-pub(crate) fn settle_above<P, B, L, K>(
-    m: &mut Memories<P, B, L, K>,
-    g: Geometry,
-    control: BackgroundControl,
-    above: Above,
-    pel: usize,
-    below: i8,
-    tally: Tally,
-) -> Tally
-where
-    P: DelayMemory<Element = i8>,
-    B: DelayMemory<Element = i8>,
-    L: DelayMemory<Element = i8>,
-    K: DelayMemory<Element = Marks>,
-    requires narrow { g.width ≤ 1000 }
-    ensures { course (signal P.DelayMemory.held B.DelayMemory.held L.DelayMemory.held K.DelayMemory.held m.new) result ≡ settle_above g control above pel below (course (signal P.DelayMemory.held B.DelayMemory.held L.DelayMemory.held K.DelayMemory.held m.old) tally) }
-{
-    match above {
-        Above::Reset => tally,
-        Above::Pending { forced } => {
-            let y = settled(&m.line, &m.marks, g, pel > g.colour, g.width, below);
-            enter_y(m, g, control, forced, y, tally)
+impl FrameModes {
+    // Luminance follows burst and colour.
+    pub(crate) fn is_luminance(self, pel: usize) -> bool
+        ensures { result ≡ pel_is_luminance self.g pel }
+    {
+        pel > self.g.colour
+    }
+
+    // How far picture and background lag behind the pel in work: by a line; but in the first line of a
+    // field, where nothing enters them, by the pels of that line that were worked so far.
+    fn lag(self, above: Above, pel: usize) -> usize
+        ensures { result ≡ lag self.g above pel }
+    {
+        match above {
+            Above::Reset => pel.saturating_sub(1),
+            Above::Pending { forced: _ } => self.g.width,
+        }
+    }
+
+    // The marks that the pel in work reads.
+    fn marks_around<M: EndMemories>(self, m: &M) -> MarksAround
+        ensures { result ≡ marks_around self.g.width (M.signal m.now).marks }
+    {
+        MarksAround {
+            before: m.marks_back(1),
+            second: m.marks_back(2),
+            right: m.marks_back(self.g.width.saturating_sub(1)),
+            above: m.marks_back(self.g.width),
+            left: m.marks_back(self.g.width + 1),
+        }
+    }
+
+    // Y of a pel that lies d back in the line memory, with what stands below it.
+    pub(crate) fn settled<M: EndMemories>(
+        self,
+        m: &M,
+        is_luminance: bool,
+        d: usize,
+        below: i8,
+    ) -> i8
+        requires near { d ≤ 1000 }
+        ensures { result ≡ settled self.g is_luminance d below (M.signal m.now).line (M.signal m.now).marks }
+    {
+        if m.marks_back(d).omitted {
+            let left = m.line_back(d + 1);
+            let right = m.line_back(d.saturating_sub(1));
+            let above = m.line_back(d + self.g.width);
+            interpolation(is_luminance, left, right, above, below)
+        } else {
+            m.line_back(d)
+        }
+    }
+
+    // What the background becomes where Y enters the picture. Of Y and the background a frame before it reads
+    // what counts: neither in a forced line or where BRC is 0, and Y only where BUC is 0.
+    fn background_after<M: EndMemories>(self, m: &M, is_forced: bool, y: i8) -> i8
+        ensures { result ≡ new_background is_forced self.control y (pel_at (M.signal m.now).picture self.g.frame) (pel_at (M.signal m.now).background self.g.frame) }
+    {
+        if is_forced || !self.control.brc {
+            return new_background(is_forced, self.control, y, 0, 0);
+        }
+        let b = m.background_back(self.g.frame);
+        if self.control.buc {
+            return new_background(is_forced, self.control, y, 0, b);
+        }
+        new_background(is_forced, self.control, y, m.picture_back(self.g.frame), b)
+    }
+
+    // Y enters the picture and the new background the background; Y is counted.
+    pub(crate) fn enter_y<M: EndMemories>(
+        self,
+        m: &mut M,
+        is_forced: bool,
+        y: i8,
+        tally: Tally,
+    ) -> Tally
+        ensures { course (M.signal m.new) result ≡ enter_y self.g self.control is_forced y (course (M.signal m.old) tally) }
+    {
+        let b = self.background_after(m, is_forced, y);
+        m.enter_settled(y, b);
+        Tally {
+            planes: tally.planes ^ byte(y),
+            ..tally
+        }
+    }
+
+    // The pel above the one in work enters picture and background, with the pel in work below it.
+    fn settle_above<M: EndMemories>(
+        self,
+        m: &mut M,
+        above: Above,
+        pel: usize,
+        below: i8,
+        tally: Tally,
+    ) -> Tally
+        ensures { course (M.signal m.new) result ≡ settle_above self.g self.control above pel below (course (M.signal m.old) tally) }
+    {
+        match above {
+            Above::Reset => tally,
+            Above::Pending { forced } => {
+                let y = self.settled(m, self.is_luminance(pel), self.g.width, below);
+                self.enter_y(m, forced, y, tally)
+            }
         }
     }
 }
 
-// A worked pel enters the line memory and its marks the mark memory; a held pel is counted.
-pub(crate) fn enter_worked<P, B, L, K>(
-    m: &mut Memories<P, B, L, K>,
-    pel: Worked,
-    tally: Tally,
-) -> Tally
-where
-    P: DelayMemory<Element = i8>,
-    B: DelayMemory<Element = i8>,
-    L: DelayMemory<Element = i8>,
-    K: DelayMemory<Element = Marks>,
-    requires few_held { tally.held < 2 ^ 63 }
-    ensures { course (signal P.DelayMemory.held B.DelayMemory.held L.DelayMemory.held K.DelayMemory.held m.new) result ≡ enter_worked pel (course (signal P.DelayMemory.held B.DelayMemory.held L.DelayMemory.held K.DelayMemory.held m.old) tally) }
-{
-    m.line.enter(pel.x);
-    m.marks.enter(pel.marks);
-    Tally {
-        planes: tally.planes,
-        held: if pel.held { tally.held + 1 } else { tally.held },
+impl LineWork {
+    // The values that a coded pel reads.
+    fn around<M: EndMemories>(self, m: &M, block: BlockModes, pel: usize) -> Around
+        ensures { result ≡ around self.frame.g self.modes.above block pel (M.signal m.now) }
+    {
+        let lag = self.frame.lag(self.modes.above, pel);
+        let marks = self.frame.marks_around(m);
+        Around {
+            intraframe: intraframe_by(m, marks.before),
+            moved: m.picture_back(block.delay.saturating_sub(lag)),
+            background: m.background_back(self.frame.g.frame.saturating_sub(lag)),
+            marks,
+        }
     }
-}
 
-// A worked pel enters, after the pel above it was settled.
-pub(crate) fn enter_pel<P, B, L, K>(
-    m: &mut Memories<P, B, L, K>,
-    g: Geometry,
-    control: BackgroundControl,
-    line: LineModes,
-    pel: usize,
-    x: Worked,
-    tally: Tally,
-) -> Tally
-where
-    P: DelayMemory<Element = i8>,
-    B: DelayMemory<Element = i8>,
-    L: DelayMemory<Element = i8>,
-    K: DelayMemory<Element = Marks>,
-    requires narrow { g.width ≤ 1000 }
-    requires few_held { tally.held < 2 ^ 63 }
-    ensures does { course (signal P.DelayMemory.held B.DelayMemory.held L.DelayMemory.held K.DelayMemory.held m.new) result ≡ enter_pel g control line pel x (course (signal P.DelayMemory.held B.DelayMemory.held L.DelayMemory.held K.DelayMemory.held m.old) tally) }
-    ensures few { result.held ≤ tally.held + 1 }
-{
-    let counted = settle_above(m, g, control, line.above, pel, x.x, tally);
-    enter_worked(m, x, counted)
-}
+    // Y of a repeated pel.
+    fn repetition_at<M: EndMemories>(self, m: &M, pel: usize) -> i8
+        ensures { result ≡ repetition (pel_is_luminance self.frame.g pel) self.modes.second (pel_at (M.signal m.now).picture (self.frame.g.near - lag self.frame.g self.modes.above pel)) (pel_at (M.signal m.now).picture (self.frame.g.far - lag self.frame.g self.modes.above pel)) }
+    {
+        let lag = self.frame.lag(self.modes.above, pel);
+        let near = m.picture_back(self.frame.g.near.saturating_sub(lag));
+        let far = m.picture_back(self.frame.g.far.saturating_sub(lag));
+        repetition(self.frame.is_luminance(pel), self.modes.second, near, far)
+    }
 
-// One pel of a line, with the value of its level.
-pub(crate) fn step<P, B, L, K>(
-    m: &mut Memories<P, B, L, K>,
-    g: Geometry,
-    control: BackgroundControl,
-    line: LineModes,
-    block: BlockModes,
-    pel: usize,
-    value: i8,
-    tally: Tally,
-) -> Tally
-where
-    P: DelayMemory<Element = i8>,
-    B: DelayMemory<Element = i8>,
-    L: DelayMemory<Element = i8>,
-    K: DelayMemory<Element = Marks>,
-    requires narrow { g.width ≤ 1000 }
-    requires few_held { tally.held < 2 ^ 63 }
-    ensures does { course (signal P.DelayMemory.held B.DelayMemory.held L.DelayMemory.held K.DelayMemory.held m.new) result ≡ step g control line block pel value (course (signal P.DelayMemory.held B.DelayMemory.held L.DelayMemory.held K.DelayMemory.held m.old) tally) }
-    ensures few { result.held ≤ tally.held + 1 }
-{
-    let x = worked(m, g, line, block, pel, value);
-    enter_pel(m, g, control, line, pel, x, tally)
+    // What a pel reads: where it looks depends on how it is worked.
+    pub(crate) fn reading<M: EndMemories>(
+        self,
+        m: &M,
+        mode: PelMode,
+        block: BlockModes,
+        pel: usize,
+    ) -> Reading
+        ensures { result ≡ reading_as mode self.frame.g self.modes block pel (M.signal m.now) }
+    {
+        match mode {
+            PelMode::Clamped => Reading::Uncoded(0),
+            PelMode::Repeated => Reading::Uncoded(self.repetition_at(m, pel)),
+            PelMode::Subsampled => Reading::Omitted,
+            PelMode::Forced => Reading::Intraframe(intraframe_at(m)),
+            PelMode::Burst => {
+                let lag = self.frame.lag(self.modes.above, pel);
+                Reading::FrameBefore(m.picture_back(self.frame.g.frame.saturating_sub(lag)))
+            }
+            PelMode::Adaptive => Reading::Surroundings(self.around(m, block, pel)),
+        }
+    }
+
+    // A pel of the line, in a block, with the value of its level.
+    fn worked<M: EndMemories>(self, m: &M, block: BlockModes, pel: usize, value: i8) -> Worked
+        ensures { result ≡ worked self.frame.g self.modes block pel value (M.signal m.now) }
+    {
+        let mode = self.modes.pel_mode(block.subsampled, pel);
+        worked_from(self.reading(m, mode, block, pel), value)
+    }
+
+    // A worked pel enters, after the pel above it was settled.
+    pub(crate) fn enter_pel<M: EndMemories>(
+        self,
+        m: &mut M,
+        pel: usize,
+        x: Worked,
+        tally: Tally,
+    ) -> Tally
+        requires few_held { tally.held < 2 ^ 63 }
+        ensures does { course (M.signal m.new) result ≡ enter_pel self.frame.g self.frame.control self.modes pel x (course (M.signal m.old) tally) }
+        ensures few { result.held ≤ tally.held + 1 }
+    {
+        let counted = self
+            .frame
+            .settle_above(m, self.modes.above, pel, x.x, tally);
+        enter_worked(m, x, counted)
+    }
+
+    // One pel of the line, with the value of its level.
+    pub(crate) fn step<M: EndMemories>(
+        self,
+        m: &mut M,
+        block: BlockModes,
+        pel: usize,
+        value: i8,
+        tally: Tally,
+    ) -> Tally
+        requires few_held { tally.held < 2 ^ 63 }
+        ensures does { course (M.signal m.new) result ≡ step self.frame.g self.frame.control self.modes block pel value (course (M.signal m.old) tally) }
+        ensures few { result.held ≤ tally.held + 1 }
+    {
+        let x = self.worked(m, block, pel, value);
+        self.enter_pel(m, pel, x, tally)
+    }
 }

@@ -18,9 +18,9 @@ use Rattle.codec.specs.Decoder.{Frame, begun, reach_test, opened_on, opening, bl
 use Rattle.codec.specs.Line.{resets}
 use Rattle.codec.specs.Signal.{Signal}
 use Rattle.codec.specs.Step.{Course, course}
-use Rattle.codec.specs.declared.decoder.Finished.{Finished}
-use Rattle.codec.specs.declared.decoder.Idle.{Idle}
-use Rattle.codec.specs.declared.decoder.Refused.{Refused}
+use Rattle.codec.specs.Decoder.{Finished}
+use Rattle.codec.specs.Decoder.{Idle}
+use Rattle.codec.specs.declared.end.Refused.{Refused}
 use Rattle.law.proofs.Through.{header_in, Hand, in_hand, onward_by}
 
 -- an answer is not a refusal

@@ -17,6 +17,7 @@ pub mod Closeness
 pub mod Lengths
 pub mod Agreement
 pub mod Delays
+pub mod Differing
 pub mod BlockAgreement
 pub mod Courses
 pub mod Healing

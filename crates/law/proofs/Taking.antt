@@ -12,7 +12,7 @@ use Rattle.format.specs.declared.refusal.Refusal.TheVariants.{BlockLineCount, Me
 use Rattle.quantizer.specs.declared.characteristic.Characteristic.{Characteristic}
 use Rattle.codec.specs.Decoder.{Frame, reach_test, opened_on, block_lines, record_test, block_line_on, block_line, finish_test, finish_on, top_in}
 use Rattle.codec.specs.Signal.{Signal}
-use Rattle.codec.specs.declared.decoder.Idle.{Idle}
+use Rattle.codec.specs.Decoder.{Idle}
 use Rattle.law.specs.Runs.{Sent, begun_with, Taken, Resting, Working, DecoderRun}
 use Rattle.law.proofs.Histories.{sent_to, Works, works_raster, works_header, works_done, decodes}
 use Rattle.law.proofs.Lengths.{reach_worked, reach_through}

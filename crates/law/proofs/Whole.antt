@@ -1,6 +1,6 @@
 -- The law over whole runs, put together.
-use Rattle.std.proofs.Common.{◌≡◌, ℕ, zero, suc, ◌-◌, ◌*◌, ◌<◌, ◌≤◌, Bool, true, false, leb, List, [], ◌∷◌, ◌++◌, length, take, drop, ℤ, pos, nat_abs, Ok, sym, refl, ap, ◌∙◌, subst, subst₂, arith}
-use Rattle.std.proofs.lemmas.List.{append-nil, take-append-drop, length-map, length-drop, length-take}
+use Rattle.std.proofs.Common.{◌≡◌, ℕ, zero, suc, ◌-◌, ◌*◌, ◌<◌, ◌≤◌, Bool, true, false, leb, List, [], ◌∷◌, ◌++◌, length, take, drop, ℤ, pos, nat_abs, Ok, sym, ap, ◌∙◌, subst, subst₂, arith}
+use Rattle.std.proofs.lemmas.List.{append-nil, take-append-drop, length-map, length-drop, length-take, nil_from_length}
 use Rattle.std.proofs.lemmas.Bool.{and_parts, leb-true, leb-false}
 use Rattle.format.proofs.FrontTests.{still_usable}
 use Rattle.format.proofs.SoundLaws.{no_fault}
@@ -38,11 +38,6 @@ use Rattle.law.proofs.Records.{coded_course_within, record_level_within, record_
 use Rattle.law.proofs.Steps.{flushed_within, resets_within}
 use Rattle.law.proofs.Taking.{AllUsable, line_taken, take_frames}
 use Rattle.law.proofs.Through.{Reach, Usable}
-
--- a list of no length is empty
-empty : {X : Type 0} (xs : List X) → length xs ≡ 0 → xs ≡ []
-empty [] h = refl
-empty (x ∷ xs) h = absurd (omega arith)
 
 -- a decoder that took a frame has memories that reach
 took_reach : (tops : Characteristic → ℕ) (values : Characteristic → ℤ → ℤ) (r : Raster) (start : Signal) (taken : List Taken)
@@ -140,7 +135,7 @@ module _ (tops shortfalls : Characteristic → ℕ) (values numbers : Characteri
   cleared_ends_agree r sc sd tc td ec ed written taken coder decoder match clear-c clear-d =
       let wrote = codes tops values numbers r sc coder in
       let took = decodes tops values r sd decoder in
-      let none : match.earlier ≡ [] = empty match.earlier (omega (arith, match.earlier_ones)) in
+      let none : match.earlier ≡ [] = nil_from_length match.earlier (omega (arith, match.earlier_ones)) in
       let same : sent_by written ≡ sent_to taken = match.same ∙ ap (λ x. sent_to taken ++ x) none ∙ append-nil (sent_to taken) in
       let kept = keeps_bounds all_pels r sc coder (cleared_within all_pels sc clear-c) in
       let hc : Reach r sc =

@@ -20,7 +20,7 @@ use Rattle.codec.specs.Line.{block_at, pels, clamped_pels}
 use Rattle.codec.specs.Modes.{pel_mode}
 use Rattle.codec.specs.Signal.{Signal, pel_at, no_marks}
 use Rattle.codec.specs.Step.{course, worked}
-use Rattle.codec.specs.declared.decoder.Idle.{Idle}
+use Rattle.codec.specs.Decoder.{Idle}
 use Rattle.codec.specs.declared.modes.BlockModes.{BlockModes}
 use Rattle.codec.specs.declared.modes.LineModes.{LineModes}
 use Rattle.codec.specs.declared.modes.PelMode.{PelMode}
