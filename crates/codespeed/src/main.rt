@@ -2,15 +2,12 @@
 // cleared memories. The lines of the frames go to standard output, the speed to standard error.
 #![tactic(auto)]
 
-use anyhow::anyhow;
+use anyhow::ensure;
 use codec::coder::{Idle, Open};
-use codec::memories::Memories;
-use delay::memory::DelayMemory;
-use delay::ring::Ring;
 use format::raster::Raster;
 use format::refusal::Refusal;
-use given::{BlockLine, Frame, frames};
-use prediction::marks::{Marks, NO_MARKS};
+use framelines::cells::{Cells, Rings};
+use given::{BlockLine, FRAMES, Frame, frames};
 use quantizer::table::StandardSet;
 use std::time::{Duration, Instant};
 use timing::{Measured, passes};
@@ -23,122 +20,73 @@ const HASH_START: u32 = 2_166_136_261;
 const HASH_FACTOR: u32 = 16_777_619;
 
 // Codes the block-lines of a frame.
-fn code_lines<P, B, L, K>(
+fn code_lines(
     end: Open,
-    m: &mut Memories<P, B, L, K>,
+    memories: &mut Rings<'_>,
     lines: &mut [BlockLine],
-) -> Result<Open, Refusal>
-where
-    P: DelayMemory<Element = i8>,
-    B: DelayMemory<Element = i8>,
-    L: DelayMemory<Element = i8>,
-    K: DelayMemory<Element = Marks>,
-{
+) -> Result<Open, Refusal> {
     let mut open = end;
-    for line in lines.iter_mut() {
-        match open.block_line(
-            m,
+    for line in lines {
+        open = open.block_line(
+            memories,
             &StandardSet,
-            line.front.as_slice(),
+            &line.front,
             false,
-            line.picture.as_slice(),
-            line.record.as_mut_slice(),
-        ) {
-            Ok(next) => open = next,
-            Err(refused) => return Err(refused.refusal),
-        }
+            &line.picture,
+            &mut line.record,
+        )?;
     }
     Ok(open)
 }
 
 // Codes one frame, and keeps its parity.
-fn code_frame<P, B, L, K>(
-    end: Idle,
-    m: &mut Memories<P, B, L, K>,
-    frame: &mut Frame,
-) -> Result<Idle, Refusal>
-where
-    P: DelayMemory<Element = i8>,
-    B: DelayMemory<Element = i8>,
-    L: DelayMemory<Element = i8>,
-    K: DelayMemory<Element = Marks>,
-{
-    let open = match end.open(m, frame.fm1, 0, frame.fm2, 0, &mut frame.header) {
-        Ok(open) => open,
-        Err(refused) => return Err(refused.refusal),
-    };
-    let coded = code_lines(open, m, frame.lines.as_mut_slice())?;
-    match coded.finish(m) {
-        Ok(finished) => {
-            frame.parity = finished.parity;
-            Ok(finished.end)
-        }
-        Err(refused) => Err(refused.refusal),
-    }
+fn code_frame(end: Idle, memories: &mut Rings<'_>, frame: &mut Frame) -> Result<Idle, Refusal> {
+    let open = end.open(memories, frame.fm1, 0, frame.fm2, 0, &mut frame.header)?;
+    let finished = code_lines(open, memories, &mut frame.lines)?.finish(memories)?;
+    frame.parity = finished.parity;
+    Ok(finished.end)
 }
 
 // Codes the frames one after another.
-fn code<P, B, L, K>(
-    m: &mut Memories<P, B, L, K>,
-    raster: Raster,
-    all: &mut [Frame],
-) -> Result<(), Refusal>
-where
-    P: DelayMemory<Element = i8>,
-    B: DelayMemory<Element = i8>,
-    L: DelayMemory<Element = i8>,
-    K: DelayMemory<Element = Marks>,
-{
+fn code(memories: &mut Rings<'_>, raster: Raster, all: &mut [Frame]) -> Result<(), Refusal> {
     let mut end = Idle::new(raster);
-    for frame in all.iter_mut() {
-        end = code_frame(end, m, frame)?;
+    for frame in all {
+        end = code_frame(end, memories, frame)?;
     }
     Ok(())
 }
 
 // One pass over cleared memories, and the time that the coding took.
 fn pass(rt: &HostRuntime, raster: Raster, all: &mut [Frame]) -> anyhow::Result<Duration> {
-    let heap = rt.alloc();
-    let mut picture = vec![in heap; 0i8; raster.picture_reach()]?;
-    let mut background = vec![in heap; 0i8; raster.picture_reach()]?;
-    let mut line = vec![in heap; 0i8; raster.line_reach()]?;
-    let mut marks = vec![in heap; NO_MARKS; raster.mark_reach()]?;
-    let mut memories = Memories {
-        picture: &mut Ring::open(picture.as_mut_slice()),
-        background: &mut Ring::open(background.as_mut_slice()),
-        line: &mut Ring::open(line.as_mut_slice()),
-        marks: &mut Ring::open(marks.as_mut_slice()),
-    };
+    let mut cells = Cells::cleared(rt.alloc(), raster)?;
+    let mut memories = cells.rings();
     let start = Instant::now(rt)?;
-    if code(&mut memories, raster, all).is_err() {
-        return Err(anyhow!("a frame is refused"));
-    }
+    ensure!(
+        code(&mut memories, raster, all).is_ok(),
+        "a frame is refused"
+    );
     Ok(start.elapsed(rt)?)
 }
 
 // The hash of some bytes more.
 fn hashed(start: u32, bytes: &[u8]) -> u32 {
-    let mut sum = start;
-    for byte in bytes {
-        sum = (sum ^ u32::from(*byte)).wrapping_mul(HASH_FACTOR);
-    }
-    sum
+    bytes.iter().fold(start, |sum, byte| {
+        (sum ^ u32::from(*byte)).wrapping_mul(HASH_FACTOR)
+    })
 }
 
 // The hash of a frame as it goes out: its header, then its records.
 fn frame_hash(frame: &Frame) -> u32 {
-    let mut sum = hashed(HASH_START, &frame.header);
-    for line in frame.lines.as_slice() {
-        sum = hashed(sum, line.record.as_slice());
-    }
-    sum
+    let header = hashed(HASH_START, &frame.header);
+    frame
+        .lines
+        .iter()
+        .fold(header, |sum, line| hashed(sum, &line.record))
 }
 
 // A line for each frame.
 fn show(rt: &HostRuntime, all: &[Frame]) -> anyhow::Result<()> {
-    let mut number = 0usize;
-    for frame in all {
-        number = number.saturating_add(1);
+    for (number, frame) in (1..=FRAMES).zip(all) {
         let parity = frame.parity;
         let sum = frame_hash(frame);
         println!(rt; "FRAME {number} PARITY {parity:02X} SUM {sum:08X}")?;
@@ -149,16 +97,12 @@ fn show(rt: &HostRuntime, all: &[Frame]) -> anyhow::Result<()> {
 fn run(rt: &HostRuntime) -> anyhow::Result<()> {
     let raster = Raster::standard();
     let mut all = frames(rt.alloc(), raster)?;
-    let mut measured = Measured {
-        frames: 0,
-        pels: raster.frame() as u64,
-        nanos: 0,
-    };
-    for i in 0..passes(rt)? {
-        let time = pass(rt, raster, all.as_mut_slice())?;
+    let mut measured = Measured::none_of(raster.frame());
+    for turn in 0..passes(rt)? {
+        let time = pass(rt, raster, &mut all)?;
         measured = measured.more(all.len(), time);
-        if i == 0 {
-            show(rt, all.as_slice())?;
+        if turn == 0 {
+            show(rt, &all)?;
         }
     }
     eprintln!(rt; "proved: {measured}")?;

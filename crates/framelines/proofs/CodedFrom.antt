@@ -1,5 +1,5 @@
 -- Block-lines coded from bytes, one after another.
-use Rattle.std.proofs.Common.{◌≡◌, ℕ, suc, ◌+◌, ◌-◌, ◌*◌, ◌<◌, ◌≤◌, Bool, not, List, ◌++◌, map, length, take, drop, ℤ, Ok, Err, Result, sym, ap, ◌∙◌, mul-le-mul_left, arith}
+use Rattle.std.proofs.Common.{◌≡◌, ℕ, suc, ◌+◌, ◌-◌, ◌*◌, ◌<◌, ◌≤◌, Bool, not, List, ◌++◌, map, length, take, drop, ℤ, Ok, Err, Result, sym, ap, ◌∙◌, mul-le-mul_right, arith}
 use borrow.Rule.Slice.PartMut.{post_of}
 use Rattle.std.proofs.lemmas.List.{drop-drop, length-drop, take_rest}
 use Rattle.std.proofs.lemmas.Bool.{eq-eqb, ne_eqb}
@@ -7,30 +7,24 @@ use Rattle.std.specs.List.{between}
 use Rattle.format.specs.Bits.{level_of}
 use Rattle.format.specs.Front.{front_length}
 use Rattle.format.specs.Raster.{width, record_length}
-use Rattle.format.specs.RecordWriting.{count_test}
 use Rattle.format.specs.Usable.{refuse_if}
 use Rattle.format.specs.declared.raster.Raster.{Raster}
 use Rattle.format.specs.declared.refusal.Refusal.{Refusal}
 use Rattle.format.specs.declared.refusal.Refusal.TheVariants.{WrongLength}
 use Rattle.quantizer.specs.declared.characteristic.Characteristic.{Characteristic}
-use Rattle.codec.specs.Coder.{block_line_coded, finish_coded}
+use Rattle.codec.specs.Coder.{block_line_coded}
 use Rattle.codec.specs.Decoder.{Frame, block_lines}
 use Rattle.codec.specs.Signal.{Signal}
-use Rattle.codec.specs.declared.decoder.Idle.{Idle}
-use Rattle.codec.specs.declared.decoder.Refused.{Refused}
-use Rattle.framelines.specs.CodedFrames.{Answer, input_length, front_in, stop_in, pels_in, answered, counted, within, followed, opening_from, finishing, block_line_from, records_coded, code_frame}
-use Rattle.framelines.specs.Frames.{frame_bytes, piece}
+use Rattle.codec.specs.declared.end.Refused.{Refused}
+use Rattle.framelines.specs.CodedFrames.{Answer, input_length, front_in, stop_in, pels_in, answered, counted, followed, block_line_from, records_coded}
+use Rattle.framelines.specs.Frames.{piece}
 
--- a place within a row of equal parts
-pub part_ends : (part i n : ℕ) → i < n → part * i + part ≤ part * n
+-- a part within a row of equal parts
+pub part_ends : (part i n : ℕ) → i < n → i * part + part ≤ n * part
 part_ends part i n h =
-    let all : part * (i + 1) ≤ part * n = mul-le-mul_left part (omega arith) in
-    let next : part * (i + 1) ≡ part * i + part = omega arith in
+    let all : (i + 1) * part ≤ n * part = mul-le-mul_right part (omega arith) in
+    let next : (i + 1) * part ≡ i * part + part = omega arith in
     omega arith
-
--- the next part begins where this one ends
-pub next_part : (first place part i : ℕ) → place ≡ first + part * i → place + part ≡ first + part * (i + 1)
-next_part first place part i e = let next : part * (i + 1) ≡ part * i + part = omega arith in omega arith
 
 -- the bytes of the pels, as the code cuts them
 abbrev pub given_pels : ℕ → List ℕ → List ℕ
@@ -74,53 +68,39 @@ module _ (tops : Characteristic → ℕ) (values numbers : Characteristic → �
       (eq-eqb (length bytes) (input_length r) whole))
 
   module _ (bytes : List ℕ) where
-    abbrev pub rest_coded : ℕ → ℕ → ℕ → Frame → List ℕ → Signal → Answer Frame
-    rest_coded = records_coded tops values numbers r bytes
+    -- the block-lines that are left before the block-line i of n
+    abbrev pub coded_from : ℕ → ℕ → ℕ → ℕ → Frame → List ℕ → Signal → Answer Frame
+    coded_from count size n i = records_coded tops values numbers r bytes (4 + i * count) (5 + i * size) (n - i)
 
     -- a turn: what the next block-line answers decides
-    pub block_lines_turn : (from to count size n i : ℕ) (f : Frame) (out : List ℕ) (s : Signal) (given : List ℕ) (a : Result Frame Refusal) (written : List ℕ)
-        (s' : Signal) → i < n → count ≡ input_length r → size ≡ record_length r → given ≡ piece bytes from count
-        → (a, written, s') ≡ block_line_from tops values numbers r f given (between to (to + size) out) s
-        → followed (rest_coded (from + count) (to + size) (n - (i + 1))) (a, take to out ++ (written ++ post_of to (to + size - to) out), s')
-        ≡ rest_coded from to (n - i) f out s
+    pub block_lines_turn : (count size n i : ℕ) (f : Frame) (out : List ℕ) (s : Signal) (given : List ℕ) (a : Result Frame Refusal) (written : List ℕ)
+        (s' : Signal) → i < n → count ≡ input_length r → size ≡ record_length r → given ≡ piece bytes (4 + i * count) count
+        → (a, written, s') ≡ block_line_from tops values numbers r f given (between (5 + i * size) (5 + i * size + size) out) s
+        → followed (coded_from count size n (i + 1))
+        (a, take (5 + i * size) out ++ (written ++ post_of (5 + i * size) (5 + i * size + size - (5 + i * size)) out), s')
+        ≡ coded_from count size n i f out s
     unfolding records_coded
-    block_lines_turn from to count size n i f out s given a written s' h ec er eg is =
+    block_lines_turn count size n i f out s given a written s' h ec er eg is =
+        let to = 5 + i * size in
         let left : n - i ≡ suc (n - (i + 1)) = omega arith in
         let end : to + (to + size - to) ≡ to + size = omega arith in
-        let next : ℕ → ℕ → Answer Frame → Answer Frame = λ c k. followed (rest_coded (from + c) (to + k) (n - (i + 1))) in
-        let here : ℕ → ℕ → Answer Frame = λ c k. block_line_from tops values numbers r f (piece bytes from c) (between to (to + k) out) s in
-        let one : ℕ → ℕ → Answer Frame = λ c k. next c k (within to (to + k) out (here c k)) in
-        ap (λ (z : List ℕ). next count size (a, take to out ++ (written ++ z), s')) (drop-drop (to + size - to) to out ∙ ap (λ (k : ℕ). drop k out) end)
-        ∙ ap (λ (z : Answer Frame). next count size (within to (to + size) out z))
-        (is ∙ ap (λ (z : List ℕ). block_line_from tops values numbers r f z (between to (to + size) out) s) eg)
-        ∙ ap (λ (c : ℕ). one c size) ec
-        ∙ ap (one (input_length r)) er
-        ∙ sym (ap (λ (k : ℕ). rest_coded from to k f out s) left)
+        let begins : 4 + (i + 1) * count ≡ 4 + i * count + count = omega arith in
+        let goes_out : 5 + (i + 1) * size ≡ 5 + i * size + size = omega arith in
+        let kept : drop (to + size - to) (drop to out) ≡ drop (to + size) out = drop-drop (to + size - to) to out ∙ ap (λ (k : ℕ). drop k out) end in
+        let rest : ℕ → ℕ → Frame → List ℕ → Signal → Answer Frame = λ from onto. records_coded tops values numbers r bytes from onto (n - (i + 1)) in
+        let next : rest (4 + (i + 1) * count) (5 + (i + 1) * size) ≡ rest (4 + i * count + count) (to + size) =
+        ap (λ (k : ℕ). rest k (5 + (i + 1) * size)) begins ∙ ap (rest (4 + i * count + count)) goes_out in
+        ap (λ (z : Frame → List ℕ → Signal → Answer Frame). followed z (a, take to out ++ (written ++ post_of to (to + size - to) out), s')) next
+        ∙ rw (left, kept, ← ec, ← er, ← eg, ← is)
 
-    pub block_lines_done : (from to n i : ℕ) (f : Frame) (out : List ℕ) (s : Signal) → n ≤ i → (Ok f, out, s) ≡ rest_coded from to (n - i) f out s
+    pub block_lines_done : (count size n i : ℕ) (f : Frame) (out : List ℕ) (s : Signal) → n ≤ i → (Ok f, out, s) ≡ coded_from count size n i f out s
     unfolding records_coded
-    block_lines_done from to n i f out s h =
-        let none : n - i ≡ 0 = omega arith in
-        sym (ap (λ (k : ℕ). rest_coded from to k f out s) none)
+    block_lines_done count size n i f out s h = let none : n - i ≡ 0 = omega arith in rw none
 
--- what the finish answers is the end of a frame
-pub finish_told : (f : Frame) (out : List ℕ) (s : Signal) (answer : Result (Idle × ℕ) (Refused Frame) × Signal) → answer ≡ finish_coded f s
-    → answered (answer.0, out, answer.1) ≡ finishing f out s
-finish_told f out s answer is = ap (λ (z : Result (Idle × ℕ) (Refused Frame) × Signal). answered (z.0, out, z.1)) is
-
--- a frame whose opening and block-lines are accepted is as its finish is
-pub frame_finished : (tops : Characteristic → ℕ) (values numbers : Characteristic → ℤ → ℤ) (bytes : List ℕ) (e : Idle) (out : List ℕ) (s : Signal)
-    (r : Raster) (room : ℕ) (modes : List ℕ) (f : Frame) (head : List ℕ) (s₁ : Signal) (g : Frame) (full : List ℕ) (s₂ : Signal) → r ≡ e.raster
-    → room ≡ frame_bytes r → Ok tt ≡ count_test room (length out) → modes ≡ piece bytes 0 4 → (Ok f, head, s₁) ≡ opening_from e modes (between 0 5 out) s
-    → (Ok g, full, s₂) ≡ records_coded tops values numbers r bytes 4 5 (block_lines r) f (head ++ drop 5 out) s₁
-    → finishing g full s₂ ≡ code_frame tops values numbers bytes e out s
-frame_finished tops values numbers bytes e out s r room modes f head s₁ g full s₂ er en fits em opened coded =
-    let lines : Raster → Frame → List ℕ → Signal → Answer Frame = λ z. records_coded tops values numbers z bytes 4 5 (block_lines z) in
-    let begun : Answer Frame → Answer Frame = λ z. followed (lines e.raster) (within 0 5 out z) in
-    let all = followed finishing (begun (opening_from e (piece bytes 0 4) (between 0 5 out) s)) in
-    let right : Ok tt ≡ count_test (frame_bytes e.raster) (length out) =
-    fits ∙ ap (λ (n : ℕ). count_test n (length out)) (en ∙ ap frame_bytes er) in
-    ap (followed finishing)
-    (coded ∙ ap (λ (z : Raster). lines z f (head ++ drop 5 out) s₁) er
-    ∙ ap begun (opened ∙ ap (λ (z : List ℕ). opening_from e z (between 0 5 out) s) em))
-    ∙ ap (counted all out s) right
+    pub block_lines_begun : (count size n : ℕ) (f : Frame) (out : List ℕ) (s : Signal) → n ≡ block_lines r
+        → coded_from count size n 0 f out s ≡ records_coded tops values numbers r bytes 4 5 (block_lines r) f out s
+    block_lines_begun count size n f out s en =
+        let from : 4 + 0 * count ≡ 4 = omega arith in
+        let to : 5 + 0 * size ≡ 5 = omega arith in
+        let all : n - 0 ≡ n = omega arith in
+        rw (from, to, all, en)

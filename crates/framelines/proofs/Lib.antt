@@ -1,2 +1,3 @@
 pub mod CodedFrom
+pub mod Hexadecimal
 pub mod Records

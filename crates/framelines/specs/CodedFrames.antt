@@ -10,13 +10,11 @@ use Rattle.format.specs.Usable.{Verdict}
 use Rattle.format.specs.declared.raster.Raster.{Raster}
 use Rattle.format.specs.declared.refusal.Refusal.{Refusal}
 use Rattle.quantizer.specs.declared.characteristic.Characteristic.{Characteristic}
-use Rattle.codec.specs.Coder.{idle_of, coded_frame_of, picture_length, opening_coded, block_line_coded, finish_coded}
-use Rattle.codec.specs.Decoder.{Frame, block_lines}
+use Rattle.codec.specs.Coder.{picture_length, opening_coded, block_line_coded}
+use Rattle.codec.specs.Decoder.{Idle, idle_of, Frame, Finished, block_lines, finish}
 use Rattle.codec.specs.Signal.{Signal}
-use Rattle.codec.specs.declared.coder.Finished.{Finished as CoderFinished}
-use Rattle.codec.specs.declared.coder.Open.{Open as CoderOpen}
-use Rattle.codec.specs.declared.decoder.Idle.{Idle}
-use Rattle.codec.specs.declared.decoder.Refused.{Refused}
+use Rattle.codec.specs.declared.end.Finished.{Finished as FinishedEnd}
+use Rattle.codec.specs.declared.end.Refused.{Refused}
 use Rattle.framelines.specs.Frames.{header_bytes, frame_bytes, piece}
 
 -- FM1, BC, FM2 and FC
@@ -72,8 +70,8 @@ opening_from e modes buffer s =
     (count_test mode_bytes (length modes))
 
 -- the finish, as a part that writes nothing
-abbrev pub finishing : Frame → List ℕ → Signal → Answer (Idle × ℕ)
-finishing f out s = let e = finish_coded f s in answered (e.0, out, e.1)
+abbrev pub finishing : Frame → List ℕ → Signal → Answer Finished
+finishing f out s = let e = finish f s in answered (e.0, out, e.1)
 
 module _ (tops : Characteristic → ℕ) (values numbers : Characteristic → ℤ → ℤ) where
   -- a block-line, from what is given for it
@@ -93,7 +91,7 @@ module _ (tops : Characteristic → ℕ) (values numbers : Characteristic → �
         (block_line_from r f (piece bytes from (input_length r)) (between to (to + record_length r) out) s))
 
   -- one frame: the first refusal ends it, and what was written before it stands in the outgoing bytes
-  abbrev pub code_frame : List ℕ → Idle → List ℕ → Signal → Answer (Idle × ℕ)
+  abbrev pub code_frame : List ℕ → Idle → List ℕ → Signal → Answer Finished
   code_frame bytes e out s =
       counted
       (followed finishing
@@ -101,11 +99,7 @@ module _ (tops : Characteristic → ℕ) (values numbers : Characteristic → �
       (within 0 header_bytes out (opening_from e (piece bytes 0 mode_bytes) (between 0 header_bytes out) s)))) out s
       (count_test (frame_bytes e.raster) (length out))
 
--- what was answered, with the states as their numbers
-abbrev pub coding_as : Result CoderOpen Refusal → Result Frame Refusal
-coding_as (Ok e) = Ok (coded_frame_of e)
-coding_as (Err why) = Err why
-
-abbrev pub frame_coded_as : Result CoderFinished Refusal → Result (Idle × ℕ) Refusal
-frame_coded_as (Ok d) = Ok (idle_of d.end, d.parity)
+-- what a frame answered, with the state as its numbers
+abbrev pub frame_coded_as : {E : Type 0} → Result (FinishedEnd E) Refusal → Result Finished Refusal
+frame_coded_as (Ok d) = Ok (record { end = idle_of d.end; parity = d.parity; held = d.held })
 frame_coded_as (Err why) = Err why

@@ -1,18 +1,18 @@
 -- A frame out of bytes: a header, then a record for each block-line, then the finish.
-use Rattle.std.specs.Prelude.{ℕ, zero, suc, ◌+◌, ◌*◌, List, take, drop, ℤ, Some, None, Ok, Err, Result}
+use Rattle.std.specs.Prelude.{ℕ, zero, suc, ◌+◌, ◌*◌, List, take, drop, ℤ, Some, None, Option, Ok, Err, Result}
+use Rattle.std.specs.Option.{option_map}
 use Rattle.format.specs.Raster.{record_length}
 use Rattle.format.specs.declared.raster.Raster.{Raster}
 use Rattle.format.specs.declared.refusal.Refusal.{Refusal}
 use Rattle.quantizer.specs.declared.characteristic.Characteristic.{Characteristic}
-use Rattle.codec.specs.Decoder.{Frame, frame_of, opening, block_line, block_lines, finish}
+use Rattle.codec.specs.Decoder.{Idle, idle_of, Frame, frame_of, Finished, opening, block_line, block_lines, finish}
 use Rattle.codec.specs.Signal.{Signal}
-use Rattle.codec.specs.declared.decoder.Finished.{Finished}
-use Rattle.codec.specs.declared.decoder.Idle.{Idle}
-use Rattle.codec.specs.declared.decoder.Open.{Open}
-use Rattle.codec.specs.declared.decoder.Refused.{Refused}
+use Rattle.codec.specs.declared.end.Open.{Open}
+use Rattle.codec.specs.declared.end.Refused.{Refused}
+use Rattle.framelines.specs.declared.entry.Entry.{Entry}
 use Rattle.framelines.specs.declared.entry.Entry.TheVariants as entry
 use Rattle.framelines.specs.declared.entry.Logged.{Logged}
-use Rattle.framelines.specs.declared.frames.Decoded.{Decoded}
+use Rattle.framelines.specs.declared.frames.Decoded.{Decoded as DecodedEnd}
 
 abbrev pub header_bytes : ℕ
 header_bytes = 5
@@ -26,7 +26,7 @@ abbrev pub piece : List ℕ → ℕ → ℕ → List ℕ
 piece bytes start length = take length (drop start bytes)
 
 -- what the records answered, with the frame in hand as its numbers
-abbrev pub records_as : Result Open Refusal → Result Frame Refusal
+abbrev pub records_as : {E : Type 0} → Result (Open E) Refusal → Result Frame Refusal
 records_as (Ok e) = Ok (frame_of e)
 records_as (Err why) = Err why
 
@@ -34,6 +34,14 @@ records_as (Err why) = Err why
 abbrev pub goes_on : (Frame → Signal → Result Frame Refusal × Signal) → Result Frame (Refused Frame) × Signal → Result Frame Refusal × Signal
 goes_on next (Ok f, s) = next f s
 goes_on next (Err e, s) = (Err e.refusal, s)
+
+-- a decoded frame: the end that is left, its parity, the planes that its opening named and the number of its
+-- held pels
+pub record Decoded : Type 0 where
+  pub end : Idle
+  pub parity : ℕ
+  pub planes : ℕ
+  pub held : ℕ
 
 module _ (tops : Characteristic → ℕ) (values : Characteristic → ℤ → ℤ) (bytes : List ℕ) where
   -- records one after another; the first refusal ends them
@@ -57,7 +65,16 @@ module _ (tops : Characteristic → ℕ) (values : Characteristic → ℤ → �
   abbrev pub decode_frame : Idle → Signal → Result Decoded Refusal × Signal
   decode_frame e s = after_opening e.raster (opening e (piece bytes 0 header_bytes) s)
 
--- the line of frame `number`
-abbrev pub logged : ℕ → Result Decoded Refusal × Signal → Logged × Signal
-logged number (Ok d, s) = (record { end = Some d.end; entry = entry.Frame number d.parity d.planes d.held }, s)
-logged number (Err why, s) = (record { end = None; entry = entry.Refused why }, s)
+-- what a frame answered, with the state as its numbers
+abbrev pub decoded_as : Result DecodedEnd Refusal → Result Decoded Refusal
+decoded_as (Ok d) = Ok (record { end = idle_of d.end; parity = d.parity; planes = d.planes; held = d.held })
+decoded_as (Err why) = Err why
+
+-- the end that is left, and the line of frame `number`
+abbrev pub logged : ℕ → Result Decoded Refusal × Signal → (Option Idle × Entry) × Signal
+logged number (Ok d, s) = ((Some d.end, entry.Frame number d.parity d.planes d.held), s)
+logged number (Err why, s) = ((None, entry.Refused why), s)
+
+-- what was logged, with the state as its numbers
+abbrev pub logged_as : Logged → Option Idle × Entry
+logged_as l = (option_map idle_of l.end, l.entry)

@@ -1,3 +1,4 @@
+pub mod Cells
 pub mod CodedFrames
 pub mod Frames
 pub mod Text

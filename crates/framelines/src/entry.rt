@@ -1,12 +1,10 @@
 // A line of the log.
-ghost use Rattle.std.specs.Prelude.{◌≡◌, Some};
-ghost use Rattle.framelines.specs.Text.{hex_digit, entry_text};
+ghost use Rattle.std.specs.Prelude.{Some};
+ghost use Rattle.framelines.specs.Text.{entry_text};
 
 use codec::decoder::Idle;
 use format::refusal::Refusal;
 use std::fmt;
-
-const SIXTEEN: u8 = 16;
 
 // A decoded frame: its number in the stream, its parity, the planes that its opening named and the
 // number of its held pels. Or the refusal that ends the log.
@@ -21,52 +19,21 @@ pub enum Entry {
     Refused(Refusal),
 }
 
-// A hexadecimal digit, of a number below 16.
-fn hex_digit(n: u8) -> char
-    ensures { result ≡ hex_digit n }
-{
-    match n {
-        0 => '0',
-        1 => '1',
-        2 => '2',
-        3 => '3',
-        4 => '4',
-        5 => '5',
-        6 => '6',
-        7 => '7',
-        8 => '8',
-        9 => '9',
-        10 => 'A',
-        11 => 'B',
-        12 => 'C',
-        13 => 'D',
-        14 => 'E',
-        _ => 'F',
-    }
-}
-
 impl fmt::Display for Entry {
     ghost output = { λ e. Some (entry_text e) };
 
     fn fmt<W: fmt::Write>(&self, f: &mut fmt::Formatter<W>) -> fmt::Result {
-        match self {
+        match *self {
             Entry::Frame {
                 number,
                 parity,
                 planes,
                 held,
-            } => {
-                let a = hex_digit(*parity / SIXTEEN);
-                let b = hex_digit(*parity % SIXTEEN);
-                let c = hex_digit(*planes / SIXTEEN);
-                let d = hex_digit(*planes % SIXTEEN);
-                write!(f, "FRAME {number} PARITY {a}{b} PLANES {c}{d} HELD {held}")
-            }
-            Entry::Refused(refusal) => {
-                let number = refusal.number();
-                let place = refusal.place();
-                write!(f, "REFUSED {number} {place}")
-            }
+            } => write!(
+                f,
+                "FRAME {number} PARITY {parity:02X} PLANES {planes:02X} HELD {held}"
+            ),
+            Entry::Refused(refusal) => write!(f, "REFUSED {refusal}"),
         }
     }
 }

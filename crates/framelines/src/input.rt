@@ -9,15 +9,10 @@ pub fn read_frame(input: &mut impl Read, buffer: &mut [u8]) -> io::Result<usize>
     ensures { IfOk result (λ n. n ≤ length buffer.new) }
 {
     let mut filled = 0;
-    for _ in 0..buffer.len() {
-        let rest = &mut buffer[filled..];
-        let came = input.read(rest)?;
-        if came == 0 {
-            break;
-        }
-        filled += came;
-        if filled == buffer.len() {
-            break;
+    while filled < buffer.len() {
+        match input.read(&mut buffer[filled..])? {
+            0 => break,
+            came => filled += came,
         }
     }
     Ok(filled)

@@ -1,4 +1,5 @@
 // The pictures of the meeting: stripes with darker and lighter patches, moving to the right.
+use crate::script::Field;
 
 // The pels of a line of the bench raster.
 const WIDTH: usize = 119;
@@ -21,7 +22,7 @@ const LIGHTER: i8 = 50;
 
 // The pel of a frame at a row and a column.
 fn shade(frame: u8, row: u8, column: u8) -> i8 {
-    let x = u16::from(column) + STRIDE * (u16::from(u8::MAX) - u16::from(frame));
+    let x = u16::from(column) + STRIDE * u16::from(u8::MAX - frame);
     let y = u16::from(row);
     let stripe = ((5 * x + 3 * y) % SHADES) as i8 + DARKEST;
     if (x / 16 + y / 4) % 3 == 0 {
@@ -32,10 +33,14 @@ fn shade(frame: u8, row: u8, column: u8) -> i8 {
 }
 
 // The pels of the block-line of a field, line after line.
-pub fn paint(frame: u8, is_second: bool, pels: &mut [i8]) {
-    let top = if is_second { FIELD_LINES } else { 0 };
-    for (i, pel) in pels.iter_mut().enumerate() {
-        let row = (i / WIDTH % 8) as u8;
-        *pel = shade(frame, top + row, (i % WIDTH) as u8);
+pub fn paint(frame: u8, field: Field, pels: &mut [i8; BLOCK_LINE_PELS]) {
+    let top = match field {
+        Field::First => 0,
+        Field::Second => FIELD_LINES,
+    };
+    for (row, line) in (top..top + FIELD_LINES).zip(pels.chunks_mut(WIDTH)) {
+        for (column, pel) in (0..u8::MAX).zip(line) {
+            *pel = shade(frame, row, column);
+        }
     }
 }

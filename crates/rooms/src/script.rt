@@ -4,6 +4,7 @@ use format::raster::Raster;
 use format::refusal::Refusal;
 use format::words::{BlockWord, Head};
 use format::writer::write_record;
+use std::array;
 
 // The bench raster: seven blocks, ten bytes of head and words, and 116 levels in each of eight lines.
 pub const BLOCKS: usize = 7;
@@ -13,6 +14,13 @@ pub const FRONT_BYTES: usize = 10;
 pub const LEVELS: usize = 928;
 
 pub const RECORD_BYTES: usize = 938;
+
+// The two fields of a frame. On the bench raster each is one block-line.
+#[derive(Clone, Copy, PartialEq, Eq)]
+pub enum Field {
+    First,
+    Second,
+}
 
 // What befalls the first record of a frame.
 #[derive(Clone, Copy, PartialEq, Eq)]
@@ -68,6 +76,13 @@ const COARSE: Head = Head {
     frp: true,
 };
 
+// The word of a block with no vector.
+const EMPTY_WORD: BlockWord = BlockWord {
+    s: false,
+    vx: 0,
+    vy: 0,
+};
+
 // FM1 is SBC BRC BUC DRM 1000: nothing active; all lines of forced block-lines forced; the background
 // follows; every block subsampled.
 const FM1: u8 = 0xf8;
@@ -112,10 +127,8 @@ const MOVING: Scene = Scene {
     ..STILL
 };
 
-// How many frames the meeting has.
-pub const SCENES: usize = 18;
-
-static SCRIPT: [Scene; SCENES] = [
+// The frames of the meeting.
+pub static SCRIPT: [Scene; 18] = [
     REFRESH,
     STILL,
     MOVING,
@@ -187,32 +200,25 @@ static SCRIPT: [Scene; SCENES] = [
     MOVING,
 ];
 
-// A frame of the script; after the last one nothing special comes.
-pub fn scene_at(i: usize) -> Scene {
-    if i < SCENES { SCRIPT[i] } else { STILL }
-}
-
 // The head and words of a block-line, at the front of a record without levels.
 pub fn write_front(
     raster: Raster,
-    scene: Scene,
-    is_second: bool,
+    scene: &Scene,
+    field: Field,
     record: &mut [u8],
 ) -> Result<(), Refusal> {
-    let head = if is_second { scene.second } else { scene.first };
-    let mut words = [BlockWord {
-        s: false,
-        vx: 0,
-        vy: 0,
-    }; BLOCKS];
-    if head.frp {
-        for (i, word) in words.iter_mut().enumerate() {
-            *word = BlockWord {
-                s: scene.thinned && i % 3 == 0,
-                vx: scene.vx,
-                vy: scene.vy,
-            };
-        }
-    }
+    let head = match field {
+        Field::First => scene.first,
+        Field::Second => scene.second,
+    };
+    let words = if head.frp {
+        array::from_fn(|block| BlockWord {
+            s: scene.thinned && block % 3 == 0,
+            vx: scene.vx,
+            vy: scene.vy,
+        })
+    } else {
+        [EMPTY_WORD; BLOCKS]
+    };
     write_record(raster, head, &words, &[0; LEVELS], record)
 }

@@ -1,13 +1,10 @@
 // The way of a block-line from one room to the other.
+use crate::memories::{Receiver, Rooms};
 use crate::picture::{BLOCK_LINE_PELS, paint};
-use crate::script::{Accident, FRONT_BYTES, RECORD_BYTES, Scene, write_front};
-use anyhow::anyhow;
-use codec::memories::Memories;
+use crate::script::{Accident, FRONT_BYTES, Field, RECORD_BYTES, Scene, write_front};
+use anyhow::Context;
 use codec::{coder, decoder};
-use delay::memory::DelayMemory;
-use format::raster::Raster;
 use format::refusal::Refusal;
-use prediction::marks::Marks;
 use quantizer::table::StandardSet;
 
 // The level that accidents alter: that of pel 60 in line 3.
@@ -49,76 +46,63 @@ fn strike(accident: Accident, record: &mut [u8; RECORD_BYTES]) {
 }
 
 // Hands a record to the decoder as it arrives; one that is refused is sent again.
-fn deliver<P, B, L, K>(
+fn deliver(
     frame: decoder::Open,
-    m: &mut Memories<P, B, L, K>,
+    receiver: &mut Receiver<'_>,
     accident: Accident,
     record: [u8; RECORD_BYTES],
-) -> anyhow::Result<(decoder::Open, Option<Refusal>)>
-where
-    P: DelayMemory<Element = i8>,
-    B: DelayMemory<Element = i8>,
-    L: DelayMemory<Element = i8>,
-    K: DelayMemory<Element = Marks>,
-{
+) -> anyhow::Result<(decoder::Open, Option<Refusal>)> {
     let mut arrived = record;
     strike(accident, &mut arrived);
-    match frame.block_line(m, &StandardSet, &arrived) {
+    match frame.block_line(receiver, &StandardSet, &arrived) {
         Ok(next) => Ok((next, None)),
-        Err(first) => match first.end.block_line(m, &StandardSet, &record) {
-            Ok(next) => Ok((next, Some(first.refusal))),
-            Err(_) => Err(anyhow!("the decoder refused a record as it was written")),
-        },
+        Err(first) => {
+            let next = first
+                .end
+                .block_line(receiver, &StandardSet, &record)
+                .ok()
+                .context("the decoder refused a record as it was written")?;
+            Ok((next, Some(first.refusal)))
+        }
     }
 }
 
-// Codes the next block-line and decodes what arrives of it.
-pub fn pass<P, B, L, K, Q, C, M, N>(
-    frames: Frames,
-    sender: &mut Memories<P, B, L, K>,
-    receiver: &mut Memories<Q, C, M, N>,
-    raster: Raster,
-    scene: Scene,
-    number: u8,
-    is_second: bool,
-) -> anyhow::Result<Passed>
-where
-    P: DelayMemory<Element = i8>,
-    B: DelayMemory<Element = i8>,
-    L: DelayMemory<Element = i8>,
-    K: DelayMemory<Element = Marks>,
-    Q: DelayMemory<Element = i8>,
-    C: DelayMemory<Element = i8>,
-    M: DelayMemory<Element = i8>,
-    N: DelayMemory<Element = Marks>,
-{
-    let mut blank = [0u8; RECORD_BYTES];
-    if write_front(raster, scene, is_second, &mut blank).is_err() {
-        return Err(anyhow!("the script has no such front"));
+impl Rooms<'_> {
+    // Codes the block-line of a field and decodes what arrives of it.
+    pub fn pass(
+        &mut self,
+        frames: Frames,
+        scene: &Scene,
+        number: u8,
+        field: Field,
+    ) -> anyhow::Result<Passed> {
+        let mut blank = [0; RECORD_BYTES];
+        write_front(self.raster, scene, field, &mut blank)
+            .ok()
+            .context("the script has no such front")?;
+        let mut picture = [0; BLOCK_LINE_PELS];
+        paint(number, field, &mut picture);
+        let mut record = [0; RECORD_BYTES];
+        let coder = frames
+            .coder
+            .block_line(
+                &mut self.sender,
+                &StandardSet,
+                &blank[..FRONT_BYTES],
+                scene.stop,
+                &picture,
+                &mut record,
+            )
+            .ok()
+            .context("the coder refused the script")?;
+        let accident = match field {
+            Field::First => scene.accident,
+            Field::Second => Accident::Nothing,
+        };
+        let (decoder, refused) = deliver(frames.decoder, &mut self.receiver, accident, record)?;
+        Ok(Passed {
+            frames: Frames { coder, decoder },
+            refused,
+        })
     }
-    let mut picture = [0i8; BLOCK_LINE_PELS];
-    paint(number, is_second, &mut picture);
-    let mut record = [0u8; RECORD_BYTES];
-    let front = &blank[..FRONT_BYTES];
-    let Frames { coder, decoder } = frames;
-    let Ok(coder) = coder.block_line(
-        sender,
-        &StandardSet,
-        front,
-        scene.stop,
-        &picture,
-        &mut record,
-    ) else {
-        return Err(anyhow!("the coder refused the script"));
-    };
-    let accident = if is_second {
-        Accident::Nothing
-    } else {
-        scene.accident
-    };
-    let (decoder, refused) = deliver(decoder, receiver, accident, record)?;
-    Ok(Passed {
-        frames: Frames { coder, decoder },
-        refused,
-    })
 }

@@ -3,12 +3,9 @@
 #![tactic(auto)]
 
 use codec::decoder::Idle;
-use codec::memories::Memories;
-use delay::memory::DelayMemory;
-use delay::ring::Ring;
 use format::raster::Raster;
-use framelines::frames::decode::{frame_bytes, log_frame, piece};
-use prediction::marks::{Marks, NO_MARKS};
+use framelines::cells::{Cells, Rings};
+use framelines::frames::decode::{frame_bytes, log_frame};
 use quantizer::table::StandardSet;
 use std::io::Read;
 use std::time::{Duration, Instant};
@@ -18,37 +15,27 @@ use timing::{Measured, passes};
 const MOST_FRAMES: usize = 100_000;
 
 // Decodes the frames of a stream, prints their lines if asked, and answers how many were decoded.
-fn decode<P, B, L, K>(
+fn decode(
     rt: &HostRuntime,
-    m: &mut Memories<P, B, L, K>,
+    memories: &mut Rings<'_>,
     raster: Raster,
     stream: &[u8],
     show: bool,
-) -> anyhow::Result<usize>
-where
-    P: DelayMemory<Element = i8>,
-    B: DelayMemory<Element = i8>,
-    L: DelayMemory<Element = i8>,
-    K: DelayMemory<Element = Marks>,
-{
-    let length = frame_bytes(raster);
+) -> anyhow::Result<usize> {
     let mut end = Idle::new(raster);
-    let mut rest = stream;
-    for i in 0..MOST_FRAMES {
-        if rest.is_empty() {
-            return Ok(i);
-        }
-        let logged = log_frame(end, m, &StandardSet, i + 1, piece(rest, 0, length));
+    let mut decoded = 0;
+    for (number, bytes) in (1..=MOST_FRAMES).zip(stream.chunks(frame_bytes(raster))) {
+        let logged = log_frame(end, memories, &StandardSet, number, bytes);
         if show {
             rt.println(logged.entry)?;
         }
-        match logged.end {
-            Some(next) => end = next,
-            None => return Ok(i),
-        }
-        rest = piece(rest, length, rest.len());
+        let Some(next) = logged.end else {
+            break;
+        };
+        end = next;
+        decoded = number;
     }
-    Ok(MOST_FRAMES)
+    Ok(decoded)
 }
 
 // One pass over cleared memories: the frames decoded and the time they took.
@@ -58,34 +45,20 @@ fn pass(
     stream: &[u8],
     show: bool,
 ) -> anyhow::Result<(usize, Duration)> {
-    let heap = rt.alloc();
-    let mut picture = vec![in heap; 0i8; raster.picture_reach()]?;
-    let mut background = vec![in heap; 0i8; raster.picture_reach()]?;
-    let mut line = vec![in heap; 0i8; raster.line_reach()]?;
-    let mut marks = vec![in heap; NO_MARKS; raster.mark_reach()]?;
-    let mut memories = Memories {
-        picture: &mut Ring::open(picture.as_mut_slice()),
-        background: &mut Ring::open(background.as_mut_slice()),
-        line: &mut Ring::open(line.as_mut_slice()),
-        marks: &mut Ring::open(marks.as_mut_slice()),
-    };
+    let mut cells = Cells::cleared(rt.alloc(), raster)?;
+    let mut memories = cells.rings();
     let start = Instant::now(rt)?;
     let frames = decode(rt, &mut memories, raster, stream, show)?;
-    let time = start.elapsed(rt)?;
-    Ok((frames, time))
+    Ok((frames, start.elapsed(rt)?))
 }
 
 fn run(rt: &HostRuntime) -> anyhow::Result<()> {
     let raster = Raster::standard();
     let mut input = Vec::new(rt.alloc());
     rt.stdin().read_to_end(&mut input)?;
-    let mut measured = Measured {
-        frames: 0,
-        pels: raster.frame() as u64,
-        nanos: 0,
-    };
-    for i in 0..passes(rt)? {
-        let (frames, time) = pass(rt, raster, input.as_slice(), i == 0)?;
+    let mut measured = Measured::none_of(raster.frame());
+    for turn in 0..passes(rt)? {
+        let (frames, time) = pass(rt, raster, &input, turn == 0)?;
         measured = measured.more(frames, time);
     }
     let bytes = 2 * raster.picture_reach() + raster.line_reach() + 3 * raster.mark_reach();

@@ -4,52 +4,64 @@
 use std::time::Duration;
 use std::{env, fmt};
 
-const NANOS_A_SECOND: u64 = 1_000_000_000;
+const NANOS_A_SECOND: u128 = 1_000_000_000;
 
-// Frames of so many pels each, and the nanoseconds that all of them took.
+// Frames of so many pels each, and the time that all of them took.
 #[derive(Clone, Copy)]
 pub struct Measured {
-    pub frames: u64,
-    pub pels: u64,
-    pub nanos: u64,
+    frames: u64,
+    pels: u64,
+    time: Duration,
 }
 
 impl Measured {
+    // None yet, of frames of so many pels.
+    pub fn none_of(pels: usize) -> Measured {
+        Measured {
+            frames: 0,
+            pels: pels as u64,
+            time: Duration::ZERO,
+        }
+    }
+
     // Some more frames, which took a time.
     pub fn more(self, frames: usize, time: Duration) -> Measured {
-        let nanos = time
-            .as_secs()
-            .saturating_mul(NANOS_A_SECOND)
-            .saturating_add(time.subsec_nanos() as u64);
         Measured {
             frames: self.frames.saturating_add(frames as u64),
-            pels: self.pels,
-            nanos: self.nanos.saturating_add(nanos),
+            time: self.time.saturating_add(time),
+            ..self
         }
     }
 }
 
-// A quotient in tenths; 0 where there is no divisor.
-fn tenths(dividend: u64, divisor: u64) -> u64 {
-    if divisor == 0 {
-        return 0;
-    }
-    dividend.saturating_mul(10) / divisor
-}
-
 impl fmt::Display for Measured {
     fn fmt<W: fmt::Write>(&self, f: &mut fmt::Formatter<W>) -> fmt::Result {
-        let frames = self.frames;
-        let rate = tenths(frames.saturating_mul(NANOS_A_SECOND), self.nanos);
-        let each = tenths(self.nanos, frames.saturating_mul(self.pels));
-        let a = rate / 10;
-        let b = rate % 10;
-        let c = each / 10;
-        let d = each % 10;
+        let frames = u128::from(self.frames);
+        let nanos = self.time.as_nanos();
+        let rate = Tenths::quotient(frames.saturating_mul(NANOS_A_SECOND), nanos);
+        let each = Tenths::quotient(nanos, frames.saturating_mul(u128::from(self.pels)));
         write!(
             f,
-            "{frames} frames, {a}.{b} frames a second, {c}.{d} ns a pel"
+            "{frames} frames, {rate} frames a second, {each} ns a pel"
         )
+    }
+}
+
+// A number in tenths.
+#[derive(Clone, Copy)]
+struct Tenths(u128);
+
+impl Tenths {
+    // A quotient; 0 where there is no divisor.
+    fn quotient(dividend: u128, divisor: u128) -> Tenths {
+        let tenths = dividend.saturating_mul(10).checked_div(divisor);
+        Tenths(tenths.unwrap_or(0))
+    }
+}
+
+impl fmt::Display for Tenths {
+    fn fmt<W: fmt::Write>(&self, f: &mut fmt::Formatter<W>) -> fmt::Result {
+        write!(f, "{}.{}", self.0 / 10, self.0 % 10)
     }
 }
 

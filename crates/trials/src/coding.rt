@@ -1,118 +1,90 @@
 // A frame coded from bytes: what goes out for a picture of nothing, what a decoder makes of a busy one, and
 // where bytes of a wrong count are refused.
-use crate::streams::{FRAME, HEADER, LINE, MARKS, PICTURE, PLAIN, RECORD};
-use codec::memories::Memories;
+use crate::streams::{FRAME, HEADER, PLAIN, RECORD, begin, restless, shown};
 use codec::{coder, decoder};
-use delay::ring::Ring;
 use format::raster::Raster;
+use format::refusal::Refusal;
+use framelines::cells::Cells;
 use framelines::frames::code::code_frame;
 use framelines::frames::decode::decode_frame;
-use prediction::marks::NO_MARKS;
-use quantizer::set::CharacteristicSet;
 use quantizer::table::StandardSet;
+use std::alloc::{AllocError, Global};
+use std::test::Fail;
 
 // What is given for a block-line, and for a frame.
 const GIVEN_LINE: usize = 963;
 
 const GIVEN: usize = 4 + 2 * GIVEN_LINE;
-// The first pel of a block-line: Stop, the head and nine bytes of words stand before it.
-const PELS: usize = 11;
+// What stands before the pels of a block-line: no Stop, the head and nine bytes of words with no vector.
+const FRONT: [u8; 11] = [0, PLAIN, 0, 0, 0, 0, 0, 0, 0, 0, 0];
 
 // A frame to code with no mode set, whose pels go up and down from a seed by so many steps.
 fn given(seed: u8, steps: u8) -> [u8; GIVEN] {
-    let mut bytes = [0; GIVEN];
-    let mut x = seed;
-    for i in 0..GIVEN {
-        x = x.wrapping_mul(77).wrapping_add(29);
-        bytes[i] = x & steps;
+    let mut bytes = restless::<GIVEN>(seed).map(|x| x & steps);
+    let (modes, lines) = bytes.split_at_mut(4);
+    begin(modes, &HEADER[1..]);
+    for line in lines.chunks_exact_mut(GIVEN_LINE) {
+        begin(line, &FRONT);
     }
-    for i in 0..4usize {
-        bytes[i] = HEADER[i + 1];
-    }
-    for i in 0..PELS {
-        bytes[4 + i] = 0;
-        bytes[4 + GIVEN_LINE + i] = 0;
-    }
-    bytes[5] = PLAIN;
-    bytes[5 + GIVEN_LINE] = PLAIN;
     bytes
 }
 
 // The parity of a frame coded over cleared memories, or its refusal.
-fn coded(bytes: &[u8], out: &mut [u8]) -> Result<u8, (u8, usize)> {
-    let mut picture = [0; PICTURE];
-    let mut background = [0; PICTURE];
-    let mut line = [0; LINE];
-    let mut marks = [NO_MARKS; MARKS];
-    let mut memories = Memories {
-        picture: &mut Ring::open(&mut picture),
-        background: &mut Ring::open(&mut background),
-        line: &mut Ring::open(&mut line),
-        marks: &mut Ring::open(&mut marks),
-    };
+fn coded(heap: Global, bytes: &[u8], out: &mut [u8]) -> Result<Result<u8, Refusal>, AllocError> {
+    let mut cells = Cells::cleared(heap, Raster::bench())?;
     let end = coder::Idle::new(Raster::bench());
-    match code_frame(end, &mut memories, &StandardSet, bytes, out) {
-        Ok(finished) => Ok(finished.parity),
-        Err(refusal) => Err((refusal.number(), refusal.place())),
-    }
+    let answer = code_frame(end, &mut cells.rings(), &StandardSet, bytes, out);
+    Ok(answer.map(|finished| finished.parity))
 }
 
 // Parity, planes and held pels of a frame decoded over cleared memories.
-fn decoded(bytes: &[u8]) -> Option<(u8, u8, usize)> {
-    let mut picture = [0; PICTURE];
-    let mut background = [0; PICTURE];
-    let mut line = [0; LINE];
-    let mut marks = [NO_MARKS; MARKS];
-    let mut memories = Memories {
-        picture: &mut Ring::open(&mut picture),
-        background: &mut Ring::open(&mut background),
-        line: &mut Ring::open(&mut line),
-        marks: &mut Ring::open(&mut marks),
-    };
+fn decoded(heap: Global, bytes: &[u8]) -> Result<(u8, u8, usize), Fail> {
+    let mut cells = Cells::cleared(heap, Raster::bench())?;
     let end = decoder::Idle::new(Raster::bench());
-    match decode_frame(end, &mut memories, &StandardSet, bytes) {
-        Ok(frame) => Some((frame.parity, frame.planes, frame.held)),
-        Err(_) => None,
-    }
+    let frame = decode_frame(end, &mut cells.rings(), &StandardSet, bytes)?;
+    Ok((frame.parity, frame.planes, frame.held))
 }
 
 #[test]
-fn picture_of_nothing(rt: HostRuntime) {
+fn picture_of_nothing(rt: HostRuntime) -> Result<(), Fail> {
     let mut out = [1; FRAME];
-    assert_eq!(rt; coded(&given(0, 0), &mut out), Ok(0xff));
+    assert_eq!(rt; coded(rt.alloc(), &given(0, 0), &mut out)?, Ok(0xff));
     assert_eq!(rt; &out[0..5], &HEADER[0..5]);
     assert_eq!(rt; out[5], PLAIN);
     assert_eq!(rt; out[5 + RECORD], PLAIN);
-    let mut ones = 0usize;
-    for byte in &out[6..] {
-        ones = ones.saturating_add(usize::from(*byte != 0));
-    }
+    let ones = out[6..].iter().filter(|byte| **byte != 0).count();
     assert_eq!(rt; ones, 1, "nothing else goes out but the second head");
+    Ok(())
 }
 
 #[test]
-fn coded_then_decoded(rt: HostRuntime) {
+fn coded_then_decoded(rt: HostRuntime) -> Result<(), Fail> {
     let mut out = [0; FRAME];
-    let parity = match coded(&given(5, 0x7f), &mut out) {
-        Ok(parity) => parity,
-        Err(_) => 0,
-    };
+    let parity = coded(rt.alloc(), &given(5, 0x7f), &mut out)??;
     assert_ne!(rt;
         out[5 + RECORD - 1],
         0,
         "the last pel of a block-line has a level"
     );
-    assert_eq!(rt; decoded(&out), Some((parity, 0, 0)));
+    assert_eq!(rt; decoded(rt.alloc(), &out)?, (parity, 0, 0));
+    Ok(())
 }
 
 #[test]
-fn wrong_counts(rt: HostRuntime) {
+fn wrong_counts(rt: HostRuntime) -> Result<(), Fail> {
     let bytes = given(5, 0x7f);
     let mut out = [0; FRAME];
-    assert_eq!(rt; coded(&bytes[0..3], &mut out), Err((4, 3)));
-    assert_eq!(rt; coded(&bytes[0..4], &mut out), Err((4, 0)));
-    assert_eq!(rt; coded(&bytes[0..5], &mut out), Err((4, 1)));
-    assert_eq!(rt; coded(&bytes[0..4 + GIVEN_LINE], &mut out), Err((4, 0)));
-    assert_eq!(rt; coded(&bytes[0..GIVEN - 1], &mut out), Err((4, 962)));
-    assert_eq!(rt; coded(&bytes, &mut out[1..]), Err((4, 1880)));
+    for (count, refusal) in [
+        (3, (4, 3)),
+        (4, (4, 0)),
+        (5, (4, 1)),
+        (4 + GIVEN_LINE, (4, 0)),
+        (GIVEN - 1, (4, 962)),
+    ] {
+        let answer = coded(rt.alloc(), &bytes[..count], &mut out)?;
+        assert_eq!(rt; answer.map_err(shown), Err(refusal), "of {count} bytes");
+    }
+    let answer = coded(rt.alloc(), &bytes, &mut out[1..])?;
+    assert_eq!(rt; answer.map_err(shown), Err((4, 1880)));
+    Ok(())
 }
