@@ -10,7 +10,7 @@ use std::cmp::Ordering;
 pub fn mean(a: i8, b: i8) -> i8
     ensures { result ≡ mean a b }
 {
-    ((a as i16 + b as i16 + 1) >> 1) as i8
+    ((i16::from(a) + i16::from(b) + 1) >> 1) as i8
 }
 
 // An omitted luminance pel: the mean of two means, each rounded by itself.

@@ -29,23 +29,23 @@ at_pos : (f : ℕ → ℕ) (n : ℕ) → symmetrical f (pos n) ≡ pos (f n)
 at_pos f n = ap (λ b. with_sign b (f n)) (le-ltb n 0 (omega arith))
 
 -- opposite numbers have one size
-size_negℤ : (z : ℤ) → unsigned_abs (neg_ℤ z) ≡ unsigned_abs z
+pub size_negℤ : (z : ℤ) → unsigned_abs (neg_ℤ z) ≡ unsigned_abs z
 size_negℤ (pos zero) = refl
 size_negℤ (pos (suc n)) = refl
 size_negℤ (negsuc n) = refl
 
 -- the size goes through f
-size_of : (f : ℕ → ℕ) (z : ℤ) → unsigned_abs (symmetrical f z) ≡ f (unsigned_abs z)
+pub size_of : (f : ℕ → ℕ) (z : ℤ) → unsigned_abs (symmetrical f z) ≡ f (unsigned_abs z)
 size_of f (pos n) = ap unsigned_abs (at_pos f n)
 size_of f (negsuc n) = size_negℤ (pos (f (suc n)))
 
-opposed : (f : ℕ → ℕ) → f 0 ≡ 0 → (z : ℤ) → symmetrical f (neg_ℤ z) ≡ neg_ℤ (symmetrical f z)
+pub opposed : (f : ℕ → ℕ) → f 0 ≡ 0 → (z : ℤ) → symmetrical f (neg_ℤ z) ≡ neg_ℤ (symmetrical f z)
 opposed f e (pos zero) = at_pos f 0 ∙ ap pos e ∙ sym (ap neg_ℤ (at_pos f 0 ∙ ap pos e))
 opposed f e (pos (suc n)) = sym (ap neg_ℤ (at_pos f (suc n)))
 opposed f e (negsuc n) = at_pos f (suc n) ∙ sym (neg_ℤ-neg_ℤ (pos (f (suc n))))
 
 -- one after the other, with 0 kept at 0
-after : (f g : ℕ → ℕ) → g 0 ≡ 0 → (z : ℤ) → symmetrical g (symmetrical f z) ≡ symmetrical (λ m. g (f m)) z
+pub after : (f g : ℕ → ℕ) → g 0 ≡ 0 → (z : ℤ) → symmetrical g (symmetrical f z) ≡ symmetrical (λ m. g (f m)) z
 after f g e (pos n) = ap (symmetrical g) (at_pos f n) ∙ at_pos g (f n) ∙ sym (at_pos (λ m. g (f m)) n)
 after f g e (negsuc n) = opposed g e (pos (f (suc n))) ∙ ap neg_ℤ (at_pos g (f (suc n)))
 
@@ -57,7 +57,7 @@ sign_neg : (n k : ℕ) → KeepsSign (negsuc n) (neg_ℤ (pos k))
 sign_neg n zero = tt
 sign_neg n (suc k) = omega (arith, ints)
 
-keeps_sign : (f : ℕ → ℕ) → f 0 ≡ 0 → (z : ℤ) → KeepsSign z (symmetrical f z)
+pub keeps_sign : (f : ℕ → ℕ) → f 0 ≡ 0 → (z : ℤ) → KeepsSign z (symmetrical f z)
 keeps_sign f e (pos zero) = subst (KeepsSign (pos 0)) (sym (at_pos f 0 ∙ ap pos e)) tt
 keeps_sign f e (pos (suc n)) = subst (KeepsSign (pos (suc n))) (sym (at_pos f (suc n))) (sign_pos (suc n) (f (suc n)) (omega arith))
 keeps_sign f e (negsuc n) = sign_neg n (f (suc n))
@@ -72,7 +72,7 @@ module _ (f : ℕ → ℕ) (top : ℕ) (rises : (k : ℕ) → k < top → f k < 
         | inr g ↦ let e : m ≡ n = omega arith in subst (λ k. f k < f (suc n)) (sym e) (rises n (omega arith))
       ]
 
-  larger_of : f 0 ≡ 0 → (y z : ℤ) → unsigned_abs y ≤ top → unsigned_abs z ≤ top → y <ℤ z → symmetrical f y <ℤ symmetrical f z
+  pub larger_of : f 0 ≡ 0 → (y z : ℤ) → unsigned_abs y ≤ top → unsigned_abs z ≤ top → y <ℤ z → symmetrical f y <ℤ symmetrical f z
   larger_of e (pos a) (pos b) s t h =
       let up : f a < f b = rising a b (omega (arith, ints)) t in
       let u : pos (f a) <ℤ pos (f b) = omega (arith, ints) in

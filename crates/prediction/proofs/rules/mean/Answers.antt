@@ -1,6 +1,6 @@
 use Rattle.std.proofs.Common.{◌≡◌, ℤ, pos, negsuc, ◌+ℤ◌, ◌/◌, ap, ◌∙◌, arith, w8, w16, SFits, to_z, of_z}
 use lib.Signed.{shr_z}
-use Rattle.std.proofs.lemmas.Int.{ints}
+use Rattle.std.proofs.lemmas.Int.{ints, to_z-of_z}
 use Rattle.prediction.specs.Rules.{halved, mean}
 use Rattle.prediction.proofs.rules.mean.Goals as goal
 
@@ -13,8 +13,14 @@ shifted a b (negsuc n) f g e =
     let fits : to_z w8 (of_z w8 (to_z w16 (of_z w16 (negsuc (n / 2))))) ≡ negsuc (n / 2) = omega (arith, ints) in
     fits ∙ ap halved e
 
-pub overflow_cast-result-3 : goal.overflow_cast-result-3
-overflow_cast-result-3 c = grind (arith, ints)
+pub overflow_cast-result : goal.overflow_cast-result
+overflow_cast-result c =
+    let a : c.from.result ≡ c.args.a = c.from.ensures ∙ to_z-of_z w8 c.args.a c.ranges.a in
+    let b : c.from-2.result ≡ c.args.b = c.from-2.ensures ∙ to_z-of_z w8 c.args.b c.ranges.b in
+    grind (arith, ints)
 
 pub returns : goal.returns
-returns c = shifted c.args.a c.args.b _ c.ranges.a c.ranges.b (omega (arith, ints))
+returns c =
+    let a : c.from.result ≡ c.args.a = c.from.ensures ∙ to_z-of_z w8 c.args.a c.ranges.a in
+    let b : c.from-2.result ≡ c.args.b = c.from-2.ensures ∙ to_z-of_z w8 c.args.b c.ranges.b in
+    shifted c.args.a c.args.b _ c.ranges.a c.ranges.b (omega (arith, ints))

@@ -18,12 +18,12 @@ outputs_fit Q2 = refl
 outputs_fit Q3 = refl
 
 -- an output of the table fits eight bits with a sign
-output_fits : (q : Characteristic) (row : List Step) (k : ℕ) (s : Step) → row ≡ row_of q → s ≡ get_or row k s → k < length row → s.1 ≤ 127
-output_fits q row k s same found inside =
+entry_fits : (q : Characteristic) (row : List Step) (k : ℕ) (s : Step) → row ≡ row_of q → s ≡ get_or row k s → k < length row → s.1 ≤ 127
+entry_fits q row k s same found inside =
     let all : AllPass fits row = subst (AllPass fits) (sym same) (AllPass-from_list_all fits (row_of q) (outputs_fit q)) in
     leb-true s.1 127 (ap fits found ∙ all k s inside)
 
 pub with_sign-requires : goal.with_sign-requires
 with_sign-requires c =
     let found = c.in_ok-output.ensures.lookup in
-    output_fits c.args.q _ _ _ c.row.ensures found.1 found.3.0
+    entry_fits c.args.q _ _ _ c.row.ensures found.1 found.3.0
