@@ -4,12 +4,10 @@ ghost use Rattle.format.specs.Bits.{bit_at, stream_bit, field_of, twos_complemen
 
 pub(crate) const BYTE_BITS: usize = 8;
 
-const LAST_BIT: usize = 7;
+const LAST_BIT: usize = BYTE_BITS - 1;
 
-// The bits of two bytes, and how many values one has.
-const PAIR_BITS: usize = 16;
-
-const BYTE_VALUES: u32 = 256;
+// The bits of two bytes.
+const PAIR_BITS: usize = 2 * BYTE_BITS;
 
 // Bit k of a byte, the least significant at 0.
 pub(crate) fn bit_at(k: u32, byte: u8) -> bool
@@ -41,9 +39,7 @@ pub(crate) fn field(bytes: &[u8], start: usize, count: usize) -> u8
     ensures bound { result < 2 ^ count }
 {
     let first = start / BYTE_BITS;
-    let high = u32::from(byte_at(bytes, first));
-    let low = u32::from(byte_at(bytes, first + 1));
-    let pair = high * BYTE_VALUES + low;
+    let pair = u32::from(u16::from_be_bytes([byte_at(bytes, first), byte_at(bytes, first + 1)]));
     let after = PAIR_BITS - start % BYTE_BITS - count;
     ((pair >> after) % (1 << count)) as u8
 }

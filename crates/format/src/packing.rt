@@ -6,11 +6,8 @@ ghost use Rattle.format.specs.Packing.{byte_of, twos_field};
 pub(crate) fn byte_of(bits: [bool; 8]) -> u8
     ensures { result ≡ byte_of bits }
 {
-    let mut byte: u8 = 0;
-    for bit in bits {
-        byte = 2 * byte + u8::from(bit);
-    }
-    byte
+    bits.iter()
+        .fold(0, |byte, bit| (byte << 1) | u8::from(*bit))
 }
 
 // The field that stands for a number in two's complement. Half of the field's numbers are below 0.

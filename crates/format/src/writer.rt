@@ -15,7 +15,9 @@ use crate::front::Front;
 use crate::order::in_order;
 use crate::packing::{byte_of, twos_field};
 use crate::raster::Raster;
-use crate::raster::measures::{BLOCK_LINE_LINES, FIRST_BLOCK, WORD_BITS};
+use crate::raster::measures::{
+    BLOCK_LINE_LINES, FIRST_BLOCK, MOST_COLOUR_BLOCKS, MOST_LUMINANCE_BLOCKS, WORD_BITS,
+};
 use crate::refusal::Refusal;
 use crate::words::{BlockWord, Head, VX_HALF, VY_HALF};
 use std::array;
@@ -30,10 +32,10 @@ const S_PLACE: u16 = 512;
 
 const VX_PLACE: u16 = 16;
 
-const LAST_WORD_BIT: usize = 9;
+const LAST_WORD_BIT: usize = WORD_BITS - 1;
 
 // No front has more words.
-const MOST_WORDS: usize = 28;
+const MOST_WORDS: usize = MOST_COLOUR_BLOCKS + MOST_LUMINANCE_BLOCKS;
 
 // Whether a vector lies between −15 and 15, and −7 and 7.
 fn in_range(word: BlockWord) -> bool
@@ -64,10 +66,10 @@ impl<'a> RangedWords<'a> {
     fn bit(&self, k: usize) -> bool
         ensures { result ≡ words_bit self.now.words.now k }
     {
-        match self.words.get(k / WORD_BITS) {
-            Some(word) => (word_number(*word) >> (LAST_WORD_BIT - k % WORD_BITS)) % 2 == 1,
-            None => false,
-        }
+        let place = LAST_WORD_BIT - k % WORD_BITS;
+        self.words
+            .get(k / WORD_BITS)
+            .is_some_and(|word| (word_number(*word) >> place) % 2 == 1)
     }
 
     // Byte i of the words.

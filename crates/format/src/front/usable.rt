@@ -12,13 +12,13 @@ use crate::order::in_order;
 use crate::raster::Raster;
 use crate::raster::measures::{FIRST_BLOCK, WORD_BITS};
 use crate::refusal::Refusal;
-use crate::words::{BlockWord, Head};
+use crate::words::{BlockWord, Head, VX_HALF, VY_HALF};
 use crate::writer::count_fits;
 
 // The vectors that are out of range.
-const BAD_VX: i8 = -16;
+const BAD_VX: i8 = -(VX_HALF as i8);
 
-const BAD_VY: i8 = -8;
+const BAD_VY: i8 = -(VY_HALF as i8);
 
 // Whether the head forces and repeats the block-line at once.
 fn forced_repeat(head: Head) -> bool

@@ -11,12 +11,16 @@ ghost use Rattle.format.specs.Sound.{Sound};
 use crate::bits::signed;
 use crate::modes::{block_of, omits, subsamples};
 use crate::order::in_order;
-use crate::raster::measures::{BLOCK_LINE_LINES, BLOCK_PELS, FIRST_PEL};
+use crate::raster::measures::{
+    BLOCK_LINE_LINES, BLOCK_PELS, BURST_PELS, FIRST_PEL, MOST_COLOUR_BLOCKS, MOST_LUMINANCE_BLOCKS,
+    UNCODED_PELS,
+};
 use crate::record::Record;
 use crate::refusal::Refusal;
 
 // No line has more levels.
-const MOST_LEVELS: usize = 452;
+const MOST_LEVELS: usize = BURST_PELS + BLOCK_PELS * (MOST_COLOUR_BLOCKS + MOST_LUMINANCE_BLOCKS)
+    - UNCODED_PELS;
 
 // A block begins at each pel whose number leaves this remainder by the pels of a block.
 const BLOCK_START: usize = 8;
@@ -41,11 +45,10 @@ fn all_within(levels: &[u8], largest: &[u8]) -> bool
     ensures so { result ≡ true → AllWithin levels.now largest.now }
     ensures otherwise { AllWithin levels.now largest.now → result ≡ true }
 {
-    let mut within = true;
-    for (byte, most) in levels.iter().zip(largest) {
-        within = within & (level_size(*byte) <= *most);
-    }
-    within
+    levels.iter().zip(largest).fold(
+        true,
+        |within, (byte, most)| within & (level_size(*byte) <= *most),
+    )
 }
 
 // The test of the levels of one line, under a frame's SBC and the top of its levels.
