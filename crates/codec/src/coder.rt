@@ -107,6 +107,7 @@ impl end::Open<Coder> {
     {
         let counted = self.between_fields(m);
         let first = self.raster.front_length();
+        // both lengths are the layout's, so nothing is refused
         let _ = write_front(self.raster, stop, front, &mut buffer[0..first]);
         self.next_over(set, buffer)
             .code(m, stop, picture, buffer, counted)

@@ -9,7 +9,8 @@ ghost use Rattle.format.specs.Record.{is_whole};
 ghost use Rattle.quantizer.specs.Choice.{chosen};
 
 use crate::block::chosen_by;
-use crate::end::{self, Refused};
+use crate::end;
+pub use crate::end::Refused;
 use crate::memories::{EndMemories, reaches};
 use crate::modes::Tally;
 use format::header::Header;

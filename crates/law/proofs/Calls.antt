@@ -14,12 +14,10 @@ use Rattle.format.specs.declared.refusal.HeaderByte.TheVariants.{Fm1, Fm2}
 use Rattle.format.specs.declared.refusal.Refusal.TheVariants.{WrongLength, FixedHeaderBit}
 use Rattle.quantizer.specs.declared.characteristic.Characteristic.{Characteristic}
 use Rattle.codec.specs.Coder.{header_written, header_length, opened_coding_on, opening_coded, picture_length, coding_test, record_written, block_line_coded_on, block_line_coded, with_parity, finish_coded}
-use Rattle.codec.specs.Decoder.{Frame, begun, reach_test, opened_on, opening, block_lines, record_test, top_in, block_line_on, block_line, finish_test, flushed, parity_of, finish_on, finish}
+use Rattle.codec.specs.Decoder.{Frame, begun, reach_test, opened_on, opening, block_lines, record_test, top_in, block_line_on, block_line, finish_test, flushed, parity_of, finish_on, finish, Finished, Idle}
 use Rattle.codec.specs.Line.{resets}
 use Rattle.codec.specs.Signal.{Signal}
 use Rattle.codec.specs.Step.{Course, course}
-use Rattle.codec.specs.Decoder.{Finished}
-use Rattle.codec.specs.Decoder.{Idle}
 use Rattle.codec.specs.declared.end.Refused.{Refused}
 use Rattle.law.proofs.Through.{header_in, Hand, in_hand, onward_by}
 

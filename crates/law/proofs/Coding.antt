@@ -11,9 +11,8 @@ use Rattle.format.specs.declared.raster.Raster.{Raster}
 use Rattle.format.specs.declared.refusal.Refusal.TheVariants.{BlockLineCount}
 use Rattle.quantizer.specs.declared.characteristic.Characteristic.{Characteristic}
 use Rattle.codec.specs.Coder.{picture_length, header_written, header_length, opened_coding_on, coding_test, block_line_coded_on, with_parity}
-use Rattle.codec.specs.Decoder.{Frame, new_end, reach_test, block_lines, finish_test, finish_on}
+use Rattle.codec.specs.Decoder.{Frame, new_end, reach_test, block_lines, finish_test, finish_on, Idle}
 use Rattle.codec.specs.Signal.{Signal}
-use Rattle.codec.specs.Decoder.{Idle}
 use Rattle.law.specs.Runs.{Sent, Written, Resting, Working, CoderRun}
 use Rattle.law.proofs.Histories.{works_raster, works_done, codes}
 use Rattle.law.proofs.Quiet.{quiet_front, quiet_long, quiet_usable}

@@ -12,10 +12,9 @@ use Rattle.format.specs.declared.raster.Raster.{Raster}
 use Rattle.format.specs.declared.refusal.MemoryName.TheVariants.{Picture, Background, Line, Marks}
 use Rattle.format.specs.declared.refusal.Refusal.TheVariants.{BlockLineCount, MemoryReach}
 use Rattle.quantizer.specs.declared.characteristic.Characteristic.{Characteristic}
-use Rattle.codec.specs.Decoder.{Frame, begun, reach_test, block_lines, parity_of, top_in}
+use Rattle.codec.specs.Decoder.{Frame, begun, reach_test, block_lines, parity_of, top_in, Idle}
 use Rattle.codec.specs.Line.{resets}
 use Rattle.codec.specs.Signal.{Signal}
-use Rattle.codec.specs.Decoder.{Idle}
 use Rattle.law.specs.Runs.{Sent, begun_with, with_record, counted_pels, Written, Taken, Standing, Resting, Working, CoderRun, DecoderRun}
 use Rattle.law.proofs.Calls.{passed, opens, opening_leaves, opens_coding, opening_coded_leaves, takes_line, block_line_leaves, codes_line, coded_line_leaves, ended_hand, finishes, finish_leaves, coded_finish, coded_finish_leaves}
 use Rattle.law.proofs.Through.{Reach, Hand, in_hand, header_in, onward_by, hand, beginning, worked, ended, through, parity_after, Usable}

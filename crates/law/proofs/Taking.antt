@@ -10,9 +10,8 @@ use Rattle.format.specs.declared.refusal.MemoryName.TheVariants.{Picture, Backgr
 use Rattle.format.specs.declared.refusal.Refusal.{Refusal}
 use Rattle.format.specs.declared.refusal.Refusal.TheVariants.{BlockLineCount, MemoryReach}
 use Rattle.quantizer.specs.declared.characteristic.Characteristic.{Characteristic}
-use Rattle.codec.specs.Decoder.{Frame, reach_test, opened_on, block_lines, record_test, block_line_on, block_line, finish_test, finish_on, top_in}
+use Rattle.codec.specs.Decoder.{Frame, reach_test, opened_on, block_lines, record_test, block_line_on, block_line, finish_test, finish_on, top_in, Idle}
 use Rattle.codec.specs.Signal.{Signal}
-use Rattle.codec.specs.Decoder.{Idle}
 use Rattle.law.specs.Runs.{Sent, begun_with, Taken, Resting, Working, DecoderRun}
 use Rattle.law.proofs.Histories.{sent_to, Works, works_raster, works_header, works_done, decodes}
 use Rattle.law.proofs.Lengths.{reach_worked, reach_through}

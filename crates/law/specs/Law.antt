@@ -15,12 +15,11 @@ use Rattle.quantizer.specs.declared.characteristic.Characteristic.{Characteristi
 use Rattle.codec.specs.Block.{geometry_of, control_of, blocks_of, line_modes, lines_from, record_value}
 use Rattle.codec.specs.Coder.{block_line_coded}
 use Rattle.codec.specs.Coding.{prepared, prediction_as, is_coded}
-use Rattle.codec.specs.Decoder.{Frame, reach_test, above_next, between_fields, block_line}
+use Rattle.codec.specs.Decoder.{Frame, reach_test, above_next, between_fields, block_line, Idle}
 use Rattle.codec.specs.Line.{block_at, pels, clamped_pels}
 use Rattle.codec.specs.Modes.{pel_mode}
 use Rattle.codec.specs.Signal.{Signal, pel_at, no_marks}
 use Rattle.codec.specs.Step.{course, worked}
-use Rattle.codec.specs.Decoder.{Idle}
 use Rattle.codec.specs.declared.modes.BlockModes.{BlockModes}
 use Rattle.codec.specs.declared.modes.LineModes.{LineModes}
 use Rattle.codec.specs.declared.modes.PelMode.{PelMode}

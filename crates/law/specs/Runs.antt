@@ -5,10 +5,8 @@ use Rattle.format.specs.Raster.{width}
 use Rattle.format.specs.declared.raster.Raster.{Raster}
 use Rattle.quantizer.specs.declared.characteristic.Characteristic.{Characteristic}
 use Rattle.codec.specs.Coder.{opening_coded, block_line_coded, finish_coded}
-use Rattle.codec.specs.Decoder.{Frame, new_end, opening, block_line, finish}
+use Rattle.codec.specs.Decoder.{Idle, Frame, Finished, new_end, opening, block_line, finish}
 use Rattle.codec.specs.Signal.{Signal}
-use Rattle.codec.specs.Decoder.{Finished}
-use Rattle.codec.specs.Decoder.{Idle}
 use Rattle.codec.specs.declared.end.Refused.{Refused}
 
 -- a frame as it goes from one end to the other: its header, and its records, the newest first
