@@ -4,11 +4,11 @@
 ghost use Rattle.std.specs.Prelude.{◌<◌, ◌≤◌, pos, negsuc, ◌≤ℤ◌};
 
 use anyhow::Context;
+use format::header::HEADER_BYTES;
 use format::raster::Raster;
 use format::raster::measures::{BLOCK_LINE_LINES, FIRST_BLOCK};
 use format::words::{BlockWord, Head};
 use format::writer::write_record;
-use framelines::frames::decode::piece;
 use std::alloc::{AllocError, Global};
 
 // The frames that are made.
@@ -38,7 +38,7 @@ pub struct Frame {
     pub fm1: u8,
     pub fm2: u8,
     pub lines: Vec<BlockLine>,
-    pub header: [u8; 5],
+    pub header: [u8; HEADER_BYTES],
     pub parity: u8,
 }
 
@@ -157,9 +157,11 @@ impl Place {
         write_record(raster, self.head(), &words, &levels, &mut record)
             .ok()
             .context("a front is not written")?;
-        let front = Vec::from_slice(heap, piece(&record, 0, raster.front_length()))?;
+        let front = record
+            .get(..raster.front_length())
+            .context("a record has no front")?;
         Ok(BlockLine {
-            front,
+            front: Vec::from_slice(heap, front)?,
             picture: self.picture(heap, grain, raster.width())?,
             record,
         })
@@ -185,7 +187,7 @@ fn frame_of(
         fm1,
         fm2,
         lines,
-        header: [0; 5],
+        header: [0; HEADER_BYTES],
         parity: 0,
     })
 }

@@ -87,9 +87,11 @@ fn frame_hash(frame: &Frame) -> u32 {
 // A line for each frame.
 fn show(rt: &HostRuntime, all: &[Frame]) -> anyhow::Result<()> {
     for (number, frame) in (1..=FRAMES).zip(all) {
-        let parity = frame.parity;
-        let sum = frame_hash(frame);
-        println!(rt; "FRAME {number} PARITY {parity:02X} SUM {sum:08X}")?;
+        println!(rt;
+            "FRAME {number} PARITY {:02X} SUM {:08X}",
+            frame.parity,
+            frame_hash(frame)
+        )?;
     }
     Ok(())
 }

@@ -1,8 +1,8 @@
 -- Block-lines coded from bytes, one after another.
-use Rattle.std.proofs.Common.{◌≡◌, ℕ, suc, ◌+◌, ◌-◌, ◌*◌, ◌<◌, ◌≤◌, Bool, not, List, ◌++◌, map, length, take, drop, ℤ, Ok, Err, Result, sym, ap, ◌∙◌, mul-le-mul_right, arith}
+use Rattle.std.proofs.Common.{◌≡◌, ℕ, suc, ◌+◌, ◌-◌, ◌*◌, ◌<◌, ◌≤◌, Bool, not, List, ◌++◌, map, length, take, drop, ℤ, Ok, Result, sym, ap, ◌∙◌, mul-le-mul_right, arith}
 use borrow.Rule.Slice.PartMut.{post_of}
 use Rattle.std.proofs.lemmas.List.{drop-drop, length-drop, take_rest}
-use Rattle.std.proofs.lemmas.Bool.{eq-eqb, ne_eqb}
+use Rattle.std.proofs.lemmas.Bool.{eq-eqb}
 use Rattle.std.specs.List.{between}
 use Rattle.format.specs.Bits.{level_of}
 use Rattle.format.specs.Front.{front_length}
@@ -42,14 +42,6 @@ pels_read r bytes first w pels whole ef ew read =
     ∙ ap (λ (k : ℕ). map level_of (drop (1 + k) bytes)) ef
 
 module _ (tops : Characteristic → ℕ) (values numbers : Characteristic → ℤ → ℤ) (r : Raster) where
-  -- a wrong count is refused
-  pub block_line_short : (f : Frame) (bytes buffer : List ℕ) (s : Signal) → (length bytes ≡ input_length r → ⊥)
-      → (Err (WrongLength (length bytes)), buffer, s) ≡ block_line_from tops values numbers r f bytes buffer s
-  unfolding block_line_from
-  block_line_short f bytes buffer s wrong =
-      let coded = answered (block_line_coded tops values numbers f (front_in r bytes) (stop_in bytes) (pels_in r bytes) buffer s) in
-      sym (ap (λ (same : Bool). counted coded buffer s (refuse_if (not same) (WrongLength (length bytes)))) (ne_eqb (length bytes) (input_length r) wrong))
-
   -- what is given in the right count is coded: its parts as the code cuts them, with the pels that were read
   pub block_line_whole : (f : Frame) (bytes buffer : List ℕ) (s : Signal) (first w : ℕ) (pels : List ℤ)
       (answer : Result Frame (Refused Frame) × List ℕ × Signal) → length bytes ≡ input_length r → first ≡ front_length r → w ≡ width r

@@ -107,12 +107,9 @@ fn tell(
     if let Some(refusal) = out.refused {
         println!(rt; "REFUSED {refusal}, and sent again")?;
     }
-    let sent = out.sent;
-    let found = out.found;
-    let planes = out.planes;
-    let held = out.held;
     println!(rt;
-        "FRAME {number} CODER {sent:02X} DECODER {found:02X} PLANES {planes:02X} HELD {held} DIFFER {differ}: {says}"
+        "FRAME {number} CODER {:02X} DECODER {:02X} PLANES {:02X} HELD {} DIFFER {differ}: {says}",
+        out.sent, out.found, out.planes, out.held
     )?;
     Ok(())
 }

@@ -1,11 +1,12 @@
 // The pictures of the meeting: stripes with darker and lighter patches, moving to the right.
 use crate::script::Field;
+use format::raster::measures::BLOCK_LINE_LINES;
 
 // The pels of a line of the bench raster.
-const WIDTH: usize = 119;
+pub const WIDTH: usize = 119;
 
 // The pels of a block-line.
-pub const BLOCK_LINE_PELS: usize = 952;
+pub const BLOCK_LINE_PELS: usize = BLOCK_LINE_LINES * WIDTH;
 
 // Lines of a field.
 const FIELD_LINES: u8 = 8;

@@ -1,6 +1,8 @@
 // The script of the meeting: for each frame what its header and its records say, what befalls a record on
 // its way, and what there is to see.
+use crate::picture::WIDTH;
 use format::raster::Raster;
+use format::raster::measures::{BLOCK_LINE_LINES, UNCODED_PELS};
 use format::refusal::Refusal;
 use format::words::{BlockWord, Head};
 use format::writer::write_record;
@@ -11,9 +13,9 @@ pub const BLOCKS: usize = 7;
 
 pub const FRONT_BYTES: usize = 10;
 
-pub const LEVELS: usize = 928;
+pub const LEVELS: usize = BLOCK_LINE_LINES * (WIDTH - UNCODED_PELS);
 
-pub const RECORD_BYTES: usize = 938;
+pub const RECORD_BYTES: usize = FRONT_BYTES + LEVELS;
 
 // The two fields of a frame. On the bench raster each is one block-line.
 #[derive(Clone, Copy, PartialEq, Eq)]
@@ -56,31 +58,19 @@ const PLAIN: Head = Head {
 };
 
 const FORCED: Head = Head {
-    qc1: false,
-    qc2: false,
     ifm: false,
-    frp: true,
+    ..PLAIN
 };
 
 const REPEATED: Head = Head {
-    qc1: false,
-    qc2: false,
-    ifm: true,
     frp: false,
+    ..PLAIN
 };
 
 const COARSE: Head = Head {
     qc1: true,
     qc2: true,
-    ifm: true,
-    frp: true,
-};
-
-// The word of a block with no vector.
-const EMPTY_WORD: BlockWord = BlockWord {
-    s: false,
-    vx: 0,
-    vy: 0,
+    ..PLAIN
 };
 
 // FM1 is SBC BRC BUC DRM 1000: nothing active; all lines of forced block-lines forced; the background
@@ -218,7 +208,7 @@ pub fn write_front(
             vy: scene.vy,
         })
     } else {
-        [EMPTY_WORD; BLOCKS]
+        [BlockWord::default(); BLOCKS]
     };
     write_record(raster, head, &words, &[0; LEVELS], record)
 }

@@ -2,6 +2,7 @@
 // where bytes of a wrong count are refused.
 use crate::streams::{FRAME, HEADER, PLAIN, RECORD, begin, restless, shown};
 use codec::{coder, decoder};
+use format::header::HEADER_BYTES;
 use format::raster::Raster;
 use format::refusal::Refusal;
 use framelines::cells::Cells;
@@ -49,10 +50,13 @@ fn decoded(heap: Global, bytes: &[u8]) -> Result<(u8, u8, usize), Fail> {
 fn picture_of_nothing(rt: HostRuntime) -> Result<(), Fail> {
     let mut out = [1; FRAME];
     assert_eq!(rt; coded(rt.alloc(), &given(0, 0), &mut out)?, Ok(0xff));
-    assert_eq!(rt; &out[0..5], &HEADER[0..5]);
-    assert_eq!(rt; out[5], PLAIN);
-    assert_eq!(rt; out[5 + RECORD], PLAIN);
-    let ones = out[6..].iter().filter(|byte| **byte != 0).count();
+    assert_eq!(rt; &out[..HEADER_BYTES], &HEADER[..]);
+    assert_eq!(rt; out[HEADER_BYTES], PLAIN);
+    assert_eq!(rt; out[HEADER_BYTES + RECORD], PLAIN);
+    let ones = out[HEADER_BYTES + 1..]
+        .iter()
+        .filter(|byte| **byte != 0)
+        .count();
     assert_eq!(rt; ones, 1, "nothing else goes out but the second head");
     Ok(())
 }
@@ -62,7 +66,7 @@ fn coded_then_decoded(rt: HostRuntime) -> Result<(), Fail> {
     let mut out = [0; FRAME];
     let parity = coded(rt.alloc(), &given(5, 0x7f), &mut out)??;
     assert_ne!(rt;
-        out[5 + RECORD - 1],
+        out[HEADER_BYTES + RECORD - 1],
         0,
         "the last pel of a block-line has a level"
     );

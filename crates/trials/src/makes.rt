@@ -32,7 +32,7 @@ fn over_rings(heap: Global, level: i8) -> Result<TwoFrames, Fail> {
     Ok(two_frames(&mut cells.rings())?)
 }
 
-// Banks of different lengths for the line memory.
+// Banks of different lengths for the line memory, and a ring for the background that is only lent.
 fn over_banks(level: i8) -> Result<TwoFrames, Fail> {
     let mut a = [level; QUARTER];
     let mut b = [level; QUARTER];
@@ -46,7 +46,7 @@ fn over_banks(level: i8) -> Result<TwoFrames, Fail> {
     let mut marks = [NO_MARKS; MARKS];
     let mut memories = Memories {
         picture: Banks::open(&mut a, &mut b, &mut c, &mut d),
-        background: Ring::open(&mut background),
+        background: &mut Ring::open(&mut background),
         line: Banks::open(&mut p, &mut q, &mut r, &mut s),
         marks: Ring::open(&mut marks),
     };

@@ -26,10 +26,8 @@ fn opening(heap: Global, from: usize) -> Result<Result<(), Refusal>, AllocError>
     if from <= 4 {
         cells.marks.pop();
     }
-    match Idle::new(Raster::bench()).open(&mut cells.rings(), &HEADER) {
-        Ok(_) => Ok(Ok(())),
-        Err(refused) => Ok(Err(refused.refusal)),
-    }
+    let opened = Idle::new(Raster::bench()).open(&mut cells.rings(), &HEADER);
+    Ok(opened.map(|_| ()).map_err(Refusal::from))
 }
 
 #[test]

@@ -1,4 +1,7 @@
 // Small frames of the bench raster for the trials.
+ghost use Rattle.std.specs.Prelude.{◌≤◌, length};
+
+use format::header::HEADER_BYTES;
 use format::refusal::Refusal;
 
 pub(crate) const PICTURE: usize = 4299;
@@ -9,9 +12,9 @@ pub(crate) const MARKS: usize = 120;
 
 pub(crate) const RECORD: usize = 938;
 
-pub(crate) const FRAME: usize = 5 + 2 * RECORD;
+pub(crate) const FRAME: usize = HEADER_BYTES + 2 * RECORD;
 // A header with no mode set, and a parity that is right at a new end.
-pub(crate) const HEADER: [u8; 5] = [0xff, 0xf8, 0x00, 0xff, 0x00];
+pub(crate) const HEADER: [u8; HEADER_BYTES] = [0xff, 0xf8, 0x00, 0xff, 0x00];
 // The head of a record with no mode set, of characteristic 0.
 pub(crate) const PLAIN: u8 = 0x3f;
 
@@ -42,10 +45,10 @@ pub(crate) fn restless<const N: usize>(seed: u8) -> [u8; N] {
 }
 
 // Writes a front over the first bytes.
-pub(crate) fn begin(bytes: &mut [u8], front: &[u8]) {
-    for (byte, new) in bytes.iter_mut().zip(front) {
-        *byte = *new;
-    }
+pub(crate) fn begin(bytes: &mut [u8], front: &[u8])
+    requires { length front.now ≤ length bytes.now }
+{
+    bytes[..front.len()].copy_from_slice(front);
 }
 
 // A frame whose levels go up and down, from a seed, within the top number 28.

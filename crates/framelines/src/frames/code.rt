@@ -12,7 +12,9 @@ use codec::memories::EndMemories;
 use format::bits::signed;
 use format::header::HEADER_BYTES;
 use format::raster::Raster;
-use format::raster::measures::BLOCK_LINE_LINES;
+use format::raster::measures::{
+    BLOCK_LINE_LINES, BLOCK_PELS, BURST_PELS, MOST_COLOUR_BLOCKS, MOST_LUMINANCE_BLOCKS,
+};
 use format::refusal::Refusal;
 use format::writer::count_fits;
 use quantizer::set::CharacteristicSet;
@@ -20,7 +22,8 @@ use quantizer::set::CharacteristicSet;
 // The bytes of a frame's modes: FM1, BC, FM2 and FC.
 const MODE_BYTES: usize = 4;
 // The pels of a block-line of the largest raster.
-const MOST_PELS: usize = 3640;
+const MOST_PELS: usize = BLOCK_LINE_LINES
+    * (BURST_PELS + BLOCK_PELS * (MOST_COLOUR_BLOCKS + MOST_LUMINANCE_BLOCKS));
 
 // The bytes given for a block-line: Stop, head and words, and its pels.
 pub fn input_length(raster: Raster) -> usize
@@ -58,14 +61,14 @@ fn open_frame<M: EndMemories>(
 ) -> Result<Open, Refusal>
     ensures { (records_as result, buffer.new, M.signal m.new) ≡ opening_from (idle_of end) modes.now buffer.old (M.signal m.old) }
 {
-    if modes.len() != MODE_BYTES {
+    let [fm1, bc, fm2, fc] = modes else {
         return Err(Refusal::WrongLength(modes.len()));
-    }
-    Ok(end.open(m, modes[0], modes[1], modes[2], modes[3], buffer)?)
+    };
+    Ok(end.open(m, *fm1, *bc, *fm2, *fc, buffer)?)
 }
 
 // Codes a block-line from what is given for it, and writes its record.
-#[tactic(auto, using(crate::proofs::CodedFrom::block_line_short))]
+#[tactic(auto, unfolding(crate::specs::CodedFrames::block_line_from))]
 fn code_block_line<M: EndMemories, S: CharacteristicSet>(
     end: Open,
     m: &mut M,
@@ -76,9 +79,7 @@ fn code_block_line<M: EndMemories, S: CharacteristicSet>(
 ) -> Result<Open, Refusal>
     ensures { (records_as result, buffer.new, M.signal m.new) ≡ block_line_from (S.tops set.now) (S.values set.now) (S.numbers set.now) raster (frame_of end) bytes.now buffer.old (M.signal m.old) }
 {
-    if bytes.len() != input_length(raster) {
-        return Err(Refusal::WrongLength(bytes.len()));
-    }
+    count_fits(input_length(raster), bytes.len())?;
     let first = 1 + raster.front_length();
     let count = BLOCK_LINE_LINES * raster.width();
     let pels = pels_in(&bytes[first..]);
