@@ -1,6 +1,9 @@
 // What the benchmarks share: how many passes to make, and what is told of them.
 #![tactic(auto)]
 
+ghost use Rattle.std.specs.Prelude.{◌≡◌, ◌+◌, ◌-◌, ◌^◌, min};
+ghost use Rattle.std.specs.Duration.{as_nanos, max_nanos};
+
 use std::time::Duration;
 use std::{env, fmt};
 
@@ -9,14 +12,18 @@ const NANOS_A_SECOND: u128 = 1_000_000_000;
 // Frames of so many pels each, and the time that all of them took.
 #[derive(Clone, Copy)]
 pub struct Measured {
-    frames: u64,
-    pels: u64,
-    time: Duration,
+    pub frames: u64,
+    pub pels: u64,
+    pub time: Duration,
 }
 
 impl Measured {
     // None yet, of frames of so many pels.
-    pub fn none_of(pels: usize) -> Measured {
+    pub fn none_of(pels: usize) -> Measured
+        ensures frames { result.frames ≡ 0 }
+        ensures pels { result.pels ≡ pels }
+        ensures time { as_nanos result.time ≡ 0 }
+    {
         Measured {
             frames: 0,
             pels: pels as u64,
@@ -24,8 +31,12 @@ impl Measured {
         }
     }
 
-    // Some more frames, which took a time.
-    pub fn more(self, frames: usize, time: Duration) -> Measured {
+    // Some more frames, which took a time. Frames and time are added up to what their types hold.
+    pub fn more(self, frames: usize, time: Duration) -> Measured
+        ensures frames { result.frames ≡ min (self.frames + frames) (2 ^ 64 - 1) }
+        ensures pels { result.pels ≡ self.pels }
+        ensures time { as_nanos result.time ≡ min (as_nanos self.time + as_nanos time) max_nanos }
+    {
         Measured {
             frames: self.frames.saturating_add(frames as u64),
             time: self.time.saturating_add(time),
