@@ -5,6 +5,7 @@
 use codec::coder::Idle;
 use format::raster::Raster;
 use framelines::cells::Cells;
+use framelines::entry::Entry;
 use framelines::frames::code::{code_frame, input_bytes};
 use framelines::frames::decode::frame_bytes;
 use framelines::input::read_frame;
@@ -32,7 +33,7 @@ fn run(rt: &HostRuntime) -> anyhow::Result<()> {
         match code_frame(end, &mut memories, &StandardSet, &buffer[..came], &mut out) {
             Ok(finished) => end = finished.end,
             Err(refusal) => {
-                eprintln!(rt; "REFUSED {refusal}")?;
+                rt.eprintln(Entry::Refused(refusal))?;
                 break;
             }
         }

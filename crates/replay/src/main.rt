@@ -6,6 +6,7 @@
 use codec::decoder::Idle;
 use format::raster::Raster;
 use framelines::cells::Cells;
+use framelines::entry::Entry;
 use framelines::frames::decode::{frame_bytes, log_frame};
 use quantizer::table::StandardSet;
 use std::io::Read;
@@ -37,7 +38,7 @@ fn replay_on(rt: &HostRuntime, sizes: [u8; 3], stream: &[u8]) -> anyhow::Result<
     match Raster::new(colour, luminance, block_lines) {
         Ok(raster) => replay(rt, raster, stream),
         Err(refusal) => {
-            println!(rt; "REFUSED {refusal}")?;
+            rt.println(Entry::Refused(refusal))?;
             Ok(())
         }
     }
