@@ -6,20 +6,20 @@ ghost use Rattle.format.specs.Refusal.{number_of, place_of};
 use std::error::Error;
 use std::fmt;
 
-// Each memory with the place that a refusal gives it.
+// The memories in their order: a refusal's place counts them from 1.
 #[derive(Clone, Copy, PartialEq, Eq, Debug)]
 pub enum MemoryName {
-    Picture = 1,
-    Background = 2,
-    Line = 3,
-    Marks = 4,
+    Picture,
+    Background,
+    Line,
+    Marks,
 }
 
-// The two header bytes that have fixed bits, each with the place that a refusal gives it.
+// The two header bytes that have fixed bits: a refusal's place counts them from 1.
 #[derive(Clone, Copy, PartialEq, Eq, Debug)]
 pub enum HeaderByte {
-    Fm1 = 1,
-    Fm2 = 2,
+    Fm1,
+    Fm2,
 }
 
 #[derive(Clone, Copy, PartialEq, Eq, Debug)]
@@ -68,8 +68,8 @@ impl Refusal {
         ensures { result ≡ place_of self.now }
     {
         match self {
-            Refusal::MemoryReach(name) => *name as usize,
-            Refusal::FixedHeaderBit(byte) => *byte as usize,
+            Refusal::MemoryReach(name) => *name as usize + 1,
+            Refusal::FixedHeaderBit(byte) => *byte as usize + 1,
             Refusal::BlockLineCount(place)
             | Refusal::WrongLength(place)
             | Refusal::StrayWord(place)

@@ -7,7 +7,7 @@ ghost use Rattle.std.specs.Duration.{as_nanos, max_nanos};
 use std::time::Duration;
 use std::{env, fmt};
 
-const NANOS_A_SECOND: u128 = 1_000_000_000;
+const NANOS_A_SECOND: u64 = 1_000_000_000;
 
 // Frames of so many pels each, and the time that all of them took.
 #[derive(Clone, Copy)]
@@ -47,10 +47,10 @@ impl Measured {
 
 impl fmt::Display for Measured {
     fn fmt<W: fmt::Write>(&self, f: &mut fmt::Formatter<W>) -> fmt::Result {
-        let frames = u128::from(self.frames);
-        let nanos = self.time.as_nanos();
+        let frames = self.frames;
+        let nanos = u64::try_from(self.time.as_nanos()).unwrap_or(u64::MAX);
         let rate = Tenths::quotient(frames.saturating_mul(NANOS_A_SECOND), nanos);
-        let each = Tenths::quotient(nanos, frames.saturating_mul(u128::from(self.pels)));
+        let each = Tenths::quotient(nanos, frames.saturating_mul(self.pels));
         write!(
             f,
             "{frames} frames, {rate} frames a second, {each} ns a pel"
@@ -60,11 +60,11 @@ impl fmt::Display for Measured {
 
 // A number in tenths.
 #[derive(Clone, Copy)]
-struct Tenths(u128);
+struct Tenths(u64);
 
 impl Tenths {
     // A quotient; 0 where there is no divisor.
-    fn quotient(dividend: u128, divisor: u128) -> Tenths {
+    fn quotient(dividend: u64, divisor: u64) -> Tenths {
         let tenths = dividend.saturating_mul(10).checked_div(divisor);
         Tenths(tenths.unwrap_or(0))
     }
