@@ -12,6 +12,6 @@ where
     ensures { result ≡ differing_pels (M.DelayMemory.held a.now) (N.DelayMemory.held b.now) count }
 {
     (0..count)
-        .filter(|&newer| a.back_or(newer + 1, 0) != b.back_or(newer + 1, 0))
-        .count()
+        .map(|newer| usize::from(a.back_or(newer + 1, 0) != b.back_or(newer + 1, 0)))
+        .sum()
 }
