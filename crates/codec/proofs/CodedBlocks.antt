@@ -4,7 +4,7 @@ use borrow.Rule.Slice.PartMut.{put_mid, post_of}
 use Rattle.std.specs.Result.{result_and}
 use Rattle.std.specs.List.{between}
 use Rattle.std.proofs.lemmas.Nat.{mul-le}
-use Rattle.std.proofs.lemmas.List.{append_assoc, append-nil, length-take-le, take_at, take-append-drop}
+use Rattle.std.proofs.lemmas.List.{append_assoc, append-nil, length-append, length-drop, length-take-le, take_at, take-append-drop}
 use Rattle.std.proofs.lemmas.Slice.{take-put_mid}
 use Rattle.format.specs.Front.{front_length}
 use Rattle.format.specs.Raster.{width, line_levels, record_length}
@@ -150,6 +150,13 @@ module _ (r : Raster) (buffer : List ℕ) (first : ℕ) (at : first ≡ front_le
   front_room = length-take-le (first - 0) buffer (omega (arith, record_length_is r)) ∙ omega arith
 
   module _ (part : List ℕ) (long : length part ≡ front_length r) where
+    pub written_long : length (part ++ post_of 0 (first - 0) buffer) ≡ record_length r
+    written_long =
+        length-append part (post_of 0 (first - 0) buffer) ∙ omega (arith, length-drop (first - 0) buffer, record_length_is r)
+
+    pub written_room : front_length r ≤ length (part ++ post_of 0 (first - 0) buffer)
+    written_room = omega (arith, written_long, record_length_is r)
+
     pub written_front : take (front_length r) (part ++ post_of 0 (first - 0) buffer) ≡ part
     written_front = take_at part (post_of 0 (first - 0) buffer) (front_length r) long
 

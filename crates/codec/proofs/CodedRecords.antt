@@ -5,14 +5,17 @@ use Rattle.std.proofs.lemmas.Nat.{mul-le}
 use Rattle.std.proofs.lemmas.List.FromFn.{length-map-range_with_len}
 use Rattle.std.proofs.lemmas.List.Edits.{length-between}
 use Rattle.std.proofs.lemmas.List.{append_assoc, length-append, length-drop, get_or_append_left, take_at, take-append-le, drop_at, drop-append-le}
+use Rattle.format.specs.Bits.{field_of}
 use Rattle.format.specs.Front.{front_length, still, stilled, front_written}
-use Rattle.format.specs.Raster.{blocks, width, word_bytes, line_levels}
+use Rattle.format.specs.Raster.{blocks, width, word_bytes, line_levels, record_length}
 use Rattle.format.specs.Record.{head_of, head_in, head_marked, words_in, word_of, word_in, has_word, line_start, line_in}
 use Rattle.format.specs.RecordWriting.{words_byte}
 use Rattle.format.specs.Survival.{words_read}
+use Rattle.format.specs.Usable.{fill_in}
 use Rattle.format.specs.declared.header.Header.{Header}
 use Rattle.format.specs.declared.raster.Raster.{Raster}
 use Rattle.format.specs.declared.words.Head.{Head}
+use Rattle.format.proofs.RasterLaws.{record_length_is}
 use Rattle.prediction.specs.declared.marks.BackgroundControl.{BackgroundControl}
 use Rattle.quantizer.specs.Choice.{chosen}
 use Rattle.quantizer.specs.declared.characteristic.Characteristic.{Characteristic}
@@ -45,6 +48,13 @@ module _ (r : Raster) (front levels : List ℕ) (long : length front ≡ front_l
       let some : 1 ≤ length front = omega arith in
       let left = length-drop 1 front in
       ap (take n) (drop-append-le 1 front levels some) ∙ take-append-le n (drop 1 front) levels (omega arith)
+
+  pub word_front : (block : ℕ) → word_in r (front ++ levels) block ≡ word_in r front block
+  unfolding word_in
+  word_front block = ap (λ (ws : List ℕ). word_of ws (10 * (block - 2))) words_front
+
+  pub fill_front : fill_in r (front ++ levels) ≡ fill_in r front
+  fill_front = ap (λ (ws : List ℕ). field_of ws (10 * blocks r) (8 * word_bytes r - 10 * blocks r)) words_front
 
   pub blocks_front : (g : Geometry) (sbc : Bool) → blocks_of g r sbc (front ++ levels) ≡ blocks_of g r sbc front
   unfolding word_in blocks_of
@@ -210,6 +220,17 @@ module _ (tops : Characteristic → ℕ) (values numbers : Characteristic → �
   record_is = refl
 
   module _ (long : length front ≡ front_length f.raster) (pels : length picture ≡ picture_length f.raster) where
+    -- it is as long as the layout
+    pub record_long : length (record_written tops values numbers f front stop picture s) ≡ record_length f.raster
+    record_long =
+        let r = f.raster in
+        let written = front_written r stop front in
+        let lines = (coded_lines tops values numbers f front stop picture s).levels in
+        let first = written_front_long r stop front long in
+        let rest = lines_long tops values numbers r f.header (leb r.block_lines f.done) (above_next f) written stop picture pels 8 1
+        (between_fields f (course s f.tally)) (omega arith) (omega arith) in
+        ap length record_is ∙ length-append written lines ∙ omega (arith, record_length_is r)
+
     -- a decoder given the record goes the coder's way
     pub coded_course : next_course tops values f (record_written tops values numbers f front stop picture s) s
         ≡ (coded_lines tops values numbers f front stop picture s).after

@@ -19,9 +19,13 @@ read_place b place k inside left =
     sym (get_or-woven b.rows b.first.now b.second.now b.third.now b.fourth.now (lasts b) (place / 4) k (pos 0) (omega arith) (omega arith))
     ∙ ap (λ i. get_or (pels b) i (pos 0)) (split place k left)
 
-pub write_place : (b : Banks) (place k : ℕ) {v : ℤ} → SFits w8 v → place < b.rows * 4 → place % 4 ≡ k
+pub write_place : (b : Banks) (place k : ℕ) (v : ℤ) → place < b.rows * 4 → place % 4 ≡ k → woven b.rows (written 0 k (place / 4) v b.first.now) (written 1 k (place / 4) v b.second.now) (written 2 k (place / 4) v b.third.now) (written 3 k (place / 4) v b.fourth.now) ≡ set (pels b) place v
+write_place b place k v inside left =
+    sym (set_woven b.rows b.first.now b.second.now b.third.now b.fourth.now (lasts b) (place / 4) k v (omega arith) (omega arith))
+    ∙ ap (λ i. set (pels b) i v) (split place k left)
+
+-- a value that fits eight bits, as it is stored
+pub write_place_fitting : (b : Banks) (place k : ℕ) {v : ℤ} → SFits w8 v → place < b.rows * 4 → place % 4 ≡ k
     → let w = to_z w8 (of_z w8 v) in woven b.rows (written 0 k (place / 4) w b.first.now) (written 1 k (place / 4) w b.second.now) (written 2 k (place / 4) w b.third.now) (written 3 k (place / 4) w b.fourth.now) ≡ set (pels b) place v
-write_place b place k {v} fits inside left =
-    sym (set_woven b.rows b.first.now b.second.now b.third.now b.fourth.now (lasts b) (place / 4) k (to_z w8 (of_z w8 v)) (omega arith) (omega arith))
-    ∙ ap (λ i. set (pels b) i (to_z w8 (of_z w8 v))) (split place k left)
-    ∙ ap (set (pels b) place) (to_z-of_z fits)
+write_place_fitting b place k {v} fits inside left =
+    write_place b place k (to_z w8 (of_z w8 v)) inside left ∙ ap (set (pels b) place) (to_z-of_z fits)

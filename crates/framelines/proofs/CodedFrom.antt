@@ -1,8 +1,8 @@
 -- Block-lines coded from bytes, one after another.
-use Rattle.std.proofs.Common.{◌≡◌, ℕ, suc, ◌+◌, ◌-◌, ◌*◌, ◌<◌, ◌≤◌, Bool, not, List, ◌++◌, map, length, take, drop, ℤ, Ok, Result, sym, ap, ◌∙◌, mul-le-mul_right, arith}
+use Rattle.std.proofs.Common.{◌≡◌, ℕ, suc, ◌+◌, ◌-◌, ◌*◌, ◌<◌, ◌≤◌, Bool, not, List, ◌++◌, map, length, take, drop, ℤ, Ok, Err, Result, sym, ap, ◌∙◌, mul-le-mul_right, arith}
 use borrow.Rule.Slice.PartMut.{post_of}
 use Rattle.std.proofs.lemmas.List.{drop-drop, length-drop, take_rest}
-use Rattle.std.proofs.lemmas.Bool.{eq-eqb}
+use Rattle.std.proofs.lemmas.Bool.{eq-eqb, ne_eqb}
 use Rattle.std.specs.List.{between}
 use Rattle.format.specs.Bits.{level_of}
 use Rattle.format.specs.Front.{front_length}
@@ -16,7 +16,7 @@ use Rattle.codec.specs.Coder.{block_line_coded}
 use Rattle.codec.specs.Decoder.{Frame, block_lines}
 use Rattle.codec.specs.Signal.{Signal}
 use Rattle.codec.specs.declared.end.Refused.{Refused}
-use Rattle.framelines.specs.CodedFrames.{Answer, input_length, front_in, stop_in, pels_in, answered, counted, followed, block_line_from, records_coded}
+use Rattle.framelines.specs.CodedFrames.{Answer, input_length, front_in, stop_in, pels_in, answered, counted, within, followed, block_line_from, records_coded}
 use Rattle.framelines.specs.Frames.{piece}
 
 -- a part within a row of equal parts
@@ -42,6 +42,14 @@ pels_read r bytes first w pels whole ef ew read =
     ∙ ap (λ (k : ℕ). map level_of (drop (1 + k) bytes)) ef
 
 module _ (tops : Characteristic → ℕ) (values numbers : Characteristic → ℤ → ℤ) (r : Raster) where
+  -- a wrong count is refused
+  pub block_line_short : (f : Frame) (bytes buffer : List ℕ) (s : Signal) → (length bytes ≡ input_length r → ⊥)
+      → (Err (WrongLength (length bytes)), buffer, s) ≡ block_line_from tops values numbers r f bytes buffer s
+  unfolding block_line_from
+  block_line_short f bytes buffer s wrong =
+      let coded = answered (block_line_coded tops values numbers f (front_in r bytes) (stop_in bytes) (pels_in r bytes) buffer s) in
+      sym (ap (λ (same : Bool). counted coded buffer s (refuse_if (not same) (WrongLength (length bytes)))) (ne_eqb (length bytes) (input_length r) wrong))
+
   -- what is given in the right count is coded: its parts as the code cuts them, with the pels that were read
   pub block_line_whole : (f : Frame) (bytes buffer : List ℕ) (s : Signal) (first w : ℕ) (pels : List ℤ)
       (answer : Result Frame (Refused Frame) × List ℕ × Signal) → length bytes ≡ input_length r → first ≡ front_length r → w ≡ width r
@@ -60,34 +68,58 @@ module _ (tops : Characteristic → ℕ) (values numbers : Characteristic → �
       (eq-eqb (length bytes) (input_length r) whole))
 
   module _ (bytes : List ℕ) where
-    -- the block-lines that are left before the block-line i of n
-    abbrev pub coded_from : ℕ → ℕ → ℕ → ℕ → Frame → List ℕ → Signal → Answer Frame
-    coded_from count size n i = records_coded tops values numbers r bytes (4 + i * count) (5 + i * size) (n - i)
+    abbrev pub rest_coded : ℕ → ℕ → ℕ → Frame → List ℕ → Signal → Answer Frame
+    rest_coded = records_coded tops values numbers r bytes
 
     -- a turn: what the next block-line answers decides
-    pub block_lines_turn : (count size n i : ℕ) (f : Frame) (out : List ℕ) (s : Signal) (given : List ℕ) (a : Result Frame Refusal) (written : List ℕ)
+    pub block_lines_turn : (from to count size n i : ℕ) (f : Frame) (out : List ℕ) (s : Signal) (given : List ℕ) (a : Result Frame Refusal) (written : List ℕ)
+        (s' : Signal) → i < n → count ≡ input_length r → size ≡ record_length r → given ≡ piece bytes from count
+        → (a, written, s') ≡ block_line_from tops values numbers r f given (between to (to + size) out) s
+        → followed (rest_coded (from + count) (to + size) (n - (i + 1))) (a, take to out ++ (written ++ post_of to (to + size - to) out), s')
+        ≡ rest_coded from to (n - i) f out s
+    unfolding records_coded
+    block_lines_turn from to count size n i f out s given a written s' h ec er eg is =
+        let left : n - i ≡ suc (n - (i + 1)) = omega arith in
+        let end : to + (to + size - to) ≡ to + size = omega arith in
+        let next : ℕ → ℕ → Answer Frame → Answer Frame = λ c k. followed (rest_coded (from + c) (to + k) (n - (i + 1))) in
+        let here : ℕ → ℕ → Answer Frame = λ c k. block_line_from tops values numbers r f (piece bytes from c) (between to (to + k) out) s in
+        let one : ℕ → ℕ → Answer Frame = λ c k. next c k (within to (to + k) out (here c k)) in
+        ap (λ (z : List ℕ). next count size (a, take to out ++ (written ++ z), s')) (drop-drop (to + size - to) to out ∙ ap (λ (k : ℕ). drop k out) end)
+        ∙ ap (λ (z : Answer Frame). next count size (within to (to + size) out z))
+        (is ∙ ap (λ (z : List ℕ). block_line_from tops values numbers r f z (between to (to + size) out) s) eg)
+        ∙ ap (λ (c : ℕ). one c size) ec
+        ∙ ap (one (input_length r)) er
+        ∙ sym (ap (λ (k : ℕ). rest_coded from to k f out s) left)
+
+    pub block_lines_done : (from to n i : ℕ) (f : Frame) (out : List ℕ) (s : Signal) → n ≤ i → (Ok f, out, s) ≡ rest_coded from to (n - i) f out s
+    unfolding records_coded
+    block_lines_done from to n i f out s h =
+        let none : n - i ≡ 0 = omega arith in
+        sym (ap (λ (k : ℕ). rest_coded from to k f out s) none)
+
+    -- the block-lines that are left before the block-line i of n
+    abbrev pub coded_from : ℕ → ℕ → ℕ → ℕ → Frame → List ℕ → Signal → Answer Frame
+    coded_from count size n i = rest_coded (4 + i * count) (5 + i * size) (n - i)
+
+    -- and so where they begin behind the modes and the header
+    pub coded_from_turn : (count size n i : ℕ) (f : Frame) (out : List ℕ) (s : Signal) (given : List ℕ) (a : Result Frame Refusal) (written : List ℕ)
         (s' : Signal) → i < n → count ≡ input_length r → size ≡ record_length r → given ≡ piece bytes (4 + i * count) count
         → (a, written, s') ≡ block_line_from tops values numbers r f given (between (5 + i * size) (5 + i * size + size) out) s
         → followed (coded_from count size n (i + 1))
         (a, take (5 + i * size) out ++ (written ++ post_of (5 + i * size) (5 + i * size + size - (5 + i * size)) out), s')
         ≡ coded_from count size n i f out s
-    unfolding records_coded
-    block_lines_turn count size n i f out s given a written s' h ec er eg is =
+    coded_from_turn count size n i f out s given a written s' h ec er eg is =
         let to = 5 + i * size in
-        let left : n - i ≡ suc (n - (i + 1)) = omega arith in
-        let end : to + (to + size - to) ≡ to + size = omega arith in
         let begins : 4 + (i + 1) * count ≡ 4 + i * count + count = omega arith in
         let goes_out : 5 + (i + 1) * size ≡ 5 + i * size + size = omega arith in
-        let kept : drop (to + size - to) (drop to out) ≡ drop (to + size) out = drop-drop (to + size - to) to out ∙ ap (λ (k : ℕ). drop k out) end in
-        let rest : ℕ → ℕ → Frame → List ℕ → Signal → Answer Frame = λ from onto. records_coded tops values numbers r bytes from onto (n - (i + 1)) in
+        let rest : ℕ → ℕ → Frame → List ℕ → Signal → Answer Frame = λ from onto. rest_coded from onto (n - (i + 1)) in
         let next : rest (4 + (i + 1) * count) (5 + (i + 1) * size) ≡ rest (4 + i * count + count) (to + size) =
         ap (λ (k : ℕ). rest k (5 + (i + 1) * size)) begins ∙ ap (rest (4 + i * count + count)) goes_out in
         ap (λ (z : Frame → List ℕ → Signal → Answer Frame). followed z (a, take to out ++ (written ++ post_of to (to + size - to) out), s')) next
-        ∙ rw (left, kept, ← ec, ← er, ← eg, ← is)
+        ∙ block_lines_turn (4 + i * count) to count size n i f out s given a written s' h ec er eg is
 
-    pub block_lines_done : (count size n i : ℕ) (f : Frame) (out : List ℕ) (s : Signal) → n ≤ i → (Ok f, out, s) ≡ coded_from count size n i f out s
-    unfolding records_coded
-    block_lines_done count size n i f out s h = let none : n - i ≡ 0 = omega arith in rw none
+    pub coded_from_done : (count size n i : ℕ) (f : Frame) (out : List ℕ) (s : Signal) → n ≤ i → (Ok f, out, s) ≡ coded_from count size n i f out s
+    coded_from_done count size n i f out s h = block_lines_done (4 + i * count) (5 + i * size) n i f out s h
 
     pub block_lines_begun : (count size n : ℕ) (f : Frame) (out : List ℕ) (s : Signal) → n ≡ block_lines r
         → coded_from count size n 0 f out s ≡ records_coded tops values numbers r bytes 4 5 (block_lines r) f out s

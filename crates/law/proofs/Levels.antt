@@ -1,5 +1,6 @@
 -- The levels that a coder finds: each by itself, from what the memories hold before its pel, and within the top.
-use Rattle.std.proofs.Common.{◌≡◌, ℕ, zero, suc, ◌+◌, ◌-◌, ◌<◌, ◌≤◌, Bool, false, cond, not, ◌&&◌, List, [], ◌∷◌, length, get_or, take, drop, ℤ, pos, ◌-ℤ◌, nat_abs, sym, refl, ap, ◌∙◌, subst, zero-add, arith}
+use Rattle.std.proofs.Common.{◌≡◌, ℕ, zero, suc, ◌+◌, ◌-◌, ◌<◌, ◌≤◌, Bool, true, false, cond, not, ◌&&◌, List, [], ◌∷◌, length, get_or, take, drop, ℤ, pos, ◌-ℤ◌, nat_abs, sym, refl, ap, ◌∙◌, subst, zero-add, arith}
+use Rattle.std.proofs.lemmas.Bool.{and_right, cond-false}
 use Rattle.format.specs.Bits.{level_of}
 use Rattle.format.specs.Record.{head_in}
 use Rattle.format.specs.declared.header.Header.{Header}
@@ -9,6 +10,7 @@ use Rattle.prediction.specs.declared.marks.BackgroundControl.{BackgroundControl}
 use Rattle.quantizer.specs.Choice.{chosen}
 use Rattle.quantizer.specs.Lawful.{Lawful}
 use Rattle.quantizer.specs.declared.characteristic.Characteristic.{Characteristic}
+use Rattle.quantizer.proofs.Uses.{value_zero}
 use Rattle.codec.specs.Block.{geometry_of, control_of, line_modes, blocks_of, record_value}
 use Rattle.codec.specs.Coder.{code_lines, picture_line}
 use Rattle.codec.specs.Coding.{prepared, prediction_as, is_coded, level_for, level_at, Coded, code_pels, code_line}
@@ -23,7 +25,7 @@ use Rattle.codec.specs.declared.modes.LineModes.{LineModes}
 use Rattle.codec.specs.declared.modes.PelMode.{PelMode}
 use Rattle.codec.proofs.CodedLines.{coded_decodes}
 use Rattle.law.specs.Law.{Within}
-use Rattle.law.proofs.Ranges.{Bounds, prepared_within, level_back}
+use Rattle.law.proofs.Ranges.{Bounds, prepared_within, level_back, level_value_lem}
 use Rattle.law.proofs.Steps.{Kept, prediction_within, clamped_pels_kept, level_within, code_pels_kept, code_lines_kept}
 
 module _ (number : ℤ → ℤ) (stop : Bool) (g : Geometry) (k : BackgroundControl) (l : LineModes) (blocks : List BlockModes) (value : ℕ → ℤ) where
@@ -62,6 +64,14 @@ module _ (number : ℤ → ℤ) (stop : Bool) (g : Geometry) (k : BackgroundCont
 -- a pel that is not coded has the level 0
 pub level_none : (number : ℤ → ℤ) (stop : Bool) (m : PelMode) (p z : ℤ) → is_coded m ≡ false → level_for number stop m p z ≡ pos 0
 level_none number stop m p z h = ap (λ b. cond (b && not stop) (number (z -ℤ p)) (pos 0)) h
+
+-- and so has every pel under Stop
+pub level_stopped : (number : ℤ → ℤ) (m : PelMode) (p z : ℤ) → level_for number true m p z ≡ pos 0
+level_stopped number m p z = cond-false (is_coded m && false) (number (z -ℤ p)) (pos 0) (and_right (is_coded m) false refl)
+
+-- the level 0 has the value 0
+pub level_zero : {top shortfall : ℕ} {number values : ℤ → ℤ} → Lawful top shortfall number values → level_value top values 0 ≡ pos 0
+level_zero {top} {values = values} law = level_value_lem top values (pos 0) law.top_most (omega arith) ∙ value_zero law
 
 -- a level is within the top, and 0 where no pel is coded
 pub record LevelFits (top : ℕ) (m : PelMode) (x : ℕ) : Type 0 where

@@ -5,7 +5,7 @@ use Rattle.format.specs.Record.{line_in}
 use Rattle.codec.specs.Block.{line_modes, block_line_work}
 use Rattle.codec.specs.Line.{line_work, head_value}
 use Rattle.codec.specs.Step.{course}
-use Rattle.codec.proofs.BlockLines.{lines_more, lines_all}
+use Rattle.codec.proofs.BlockLines.{left_more, left_all}
 use Rattle.codec.proofs.modes.BlockLine.work.Goals as goal
 
 pub loop-number-preserved : goal.loop-number-preserved
@@ -20,7 +20,7 @@ loop-number-preserved g c =
     worked.ensures.does
     ∙ sym (ap (λ (r : Raster). line_work s.frame.g s.frame.control (line_modes s.header s.head s.second s.above c.loop-number.number) s.blocks (value s.head)
     (line_in r bytes c.loop-number.number) (course (g.M.EndMemories.signal c.loop-number.m) c.loop-number.counted)) c.requires.raster) in
-    (lines_more s bytes c.requires.over value c.loop-number.number _ _ c.loop-number-test.true does ∙ c.loop-number.invariant.0, few)
+    (left_more s bytes c.requires.over value c.loop-number.number _ _ c.loop-number-test.true does ∙ c.loop-number.invariant.0, few)
 
 pub returns-clause-does : goal.returns-clause-does
 unfolding block_line_work
@@ -28,4 +28,4 @@ returns-clause-does g c =
     let a = c.args in
     let s = a.self.now in
     let value = head_value (g.S.CharacteristicSet.tops s.set.now) (g.S.CharacteristicSet.values s.set.now) in
-    lines_all s (read_bytes a.reader) c.requires.over value c.loop-number.number _ c.loop-number-test.false ∙ c.loop-number.invariant.0
+    left_all s (read_bytes a.reader) c.requires.over value c.loop-number.number _ c.loop-number-test.false ∙ c.loop-number.invariant.0

@@ -1,6 +1,6 @@
 use Rattle.std.proofs.Common.{◌*◌, ap, ◌∙◌}
 use Rattle.std.proofs.lemmas.Result.{err_from_is_err_and}
-use Rattle.framelines.proofs.Records.{records_begun, records_turn, records_done}
+use Rattle.framelines.proofs.Records.{records_begun, records_from_turn, records_from_done}
 use Rattle.framelines.proofs.frames.decode.take_records.Goals as goal
 
 pub loop-i-init : goal.loop-i-init
@@ -12,7 +12,7 @@ loop-i-init g c =
 pub loop-i-preserved : goal.loop-i-preserved
 loop-i-preserved g c =
     let a = c.args in
-    records_turn (g.S.CharacteristicSet.tops a.set.now) (g.S.CharacteristicSet.values a.set.now) a.bytes.now c.record_length-length.result
+    records_from_turn (g.S.CharacteristicSet.tops a.set.now) (g.S.CharacteristicSet.values a.set.now) a.bytes.now c.record_length-length.result
     (2 * c.block_lines-i-end.result) c.loop-i.i _ _ _ _ c.loop-i-test.true c.piece-record.ensures c.in_ok-open.ensures
     ∙ c.loop-i.invariant
 
@@ -21,13 +21,13 @@ returns-in_err-open g c =
     let a = c.args in
     let why = err_from_is_err_and c.from_residual.result c.from_residual.ensures.1 in
     rw (why.1, why.2)
-    (records_turn (g.S.CharacteristicSet.tops a.set.now) (g.S.CharacteristicSet.values a.set.now) a.bytes.now c.record_length-length.result
+    (records_from_turn (g.S.CharacteristicSet.tops a.set.now) (g.S.CharacteristicSet.values a.set.now) a.bytes.now c.record_length-length.result
     (2 * c.block_lines-i-end.result) c.loop-i.i _ _ _ _ c.loop-i-test.true c.piece-record.ensures c.in_err-open.ensures
     ∙ c.loop-i.invariant)
 
 pub returns : goal.returns
 returns g c =
     let a = c.args in
-    records_done (g.S.CharacteristicSet.tops a.set.now) (g.S.CharacteristicSet.values a.set.now) a.bytes.now c.record_length-length.result
+    records_from_done (g.S.CharacteristicSet.tops a.set.now) (g.S.CharacteristicSet.values a.set.now) a.bytes.now c.record_length-length.result
     (2 * c.block_lines-i-end.result) c.loop-i.i _ _ c.loop-i-test.false
     ∙ c.loop-i.invariant
