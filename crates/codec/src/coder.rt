@@ -20,6 +20,8 @@ use format::words::head_in;
 use format::writer::{count_fits, write_front};
 use quantizer::set::CharacteristicSet;
 
+pub mod calls;
+
 // What an end is that codes.
 #[derive(Clone, Copy)]
 pub struct Coder;

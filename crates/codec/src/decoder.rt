@@ -20,6 +20,8 @@ use format::refusal::Refusal;
 use format::words::Head;
 use quantizer::set::CharacteristicSet;
 
+pub mod calls;
+
 // What an end is that decodes.
 #[derive(Clone, Copy)]
 pub struct Decoder;

@@ -2,11 +2,13 @@
 #![tactic(auto)]
 
 mod block;
+mod boxed;
 pub mod coder;
 mod coding;
 pub mod decoder;
 pub mod end;
 pub mod figures;
+mod lent;
 mod line;
 pub mod memories;
 pub mod modes;

@@ -97,6 +97,20 @@ where
     }
 }
 
+// The pel n places back, 0 where the memory does not reach.
+pub fn pel_back<M: DelayMemory<Element = i8>>(memory: &M, n: usize) -> i8
+    ensures { result ≡ pel_at (M.DelayMemory.held memory.now) n }
+{
+    memory.back_or(n, 0)
+}
+
+// The marks n places back, none where the memory does not reach.
+pub fn marks_back<M: DelayMemory<Element = Marks>>(memory: &M, n: usize) -> Marks
+    ensures { result ≡ marks_at (M.DelayMemory.held memory.now) n }
+{
+    memory.back_or(n, NO_MARKS)
+}
+
 // A reset pel: 0 in picture, background and line memory, and no mark.
 pub fn enter_reset<M: EndMemories>(m: &mut M)
     ensures { M.signal m.new ≡ with_reset (M.signal m.old) }

@@ -1,0 +1,2 @@
+// What the calls of a coder take and answer.
+pub use crate::coder::{Coder, Finished, Idle, Open};
