@@ -3,9 +3,10 @@ use crate::streams::{HEADER, blank_record, shown};
 use codec::decoder::{Idle, Open};
 use codec::end::Refused;
 use codec::memories::EndMemories;
+use delay::memory::DelayMemory;
 use format::raster::Raster;
 use format::refusal::Refusal;
-use framelines::cells::Cells;
+use framelines::cells::{Cells, Rings};
 use quantizer::table::StandardSet;
 use std::alloc::{AllocError, Global};
 use std::process::Abort;
@@ -64,12 +65,12 @@ fn taken<T, S: Drop>(call: Result<T, Refused<S>>) -> Result<T, Fail> {
 }
 
 // A frame with refused calls at every step: its parity and its held pels.
-fn refused_on_the_way<M: EndMemories>(rt: &impl Abort, m: &mut M) -> Result<(u8, usize), Fail> {
-    let newest = m.picture_back(1);
+fn refused_on_the_way(rt: &impl Abort, m: &mut Rings<'_>) -> Result<(u8, usize), Fail> {
+    let newest = m.picture.back(1);
     let end = Idle::new(Raster::bench());
     let wrong_bit = end.open(m, &[0xff, 0xf9, 0x00, 0xff, 0x00]);
     let end = refused(rt, wrong_bit, (5, 1))?;
-    assert_eq!(rt; m.picture_back(1), newest);
+    assert_eq!(rt; m.picture.back(1), newest);
     let opened = taken(end.open(m, &HEADER))?;
     assert_eq!(rt; opened.planes, 0);
     let open = refused(rt, opened.end.finish(m), (3, 0))?;
